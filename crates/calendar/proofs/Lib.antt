@@ -1,0 +1,4 @@
+pub mod Lasts
+pub mod Years
+pub mod Days
+pub mod Clocks

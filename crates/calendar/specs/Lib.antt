@@ -1,0 +1,4 @@
+pub mod Last
+pub mod Dates
+pub mod Moments
+pub mod Law

@@ -1,0 +1,3 @@
+// Entries of a revocation list.
+pub mod entries;
+pub mod times;

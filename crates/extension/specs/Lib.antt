@@ -1,0 +1,5 @@
+pub mod Reasons
+pub mod Roles
+pub mod Tells
+pub mod Values
+pub mod Extensions

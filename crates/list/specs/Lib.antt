@@ -1,0 +1,3 @@
+pub mod Algorithms
+pub mod Blocks
+pub mod Lists
