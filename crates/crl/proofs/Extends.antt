@@ -85,7 +85,7 @@ reason-exact = recast _ (made (λ n. record { number = None; expired = None; rea
     (λ p w v h. let b = reason-in (h .1 .0 .octets) (h .0) (h .1 .2) in (h .1 .0, h .1 .1, (h .0, b .0, b .1, h .2)))
     (λ p w v h. let n = h .2 .0 in (n, (h .0, h .1, ap reasonIn (h .2 .1) ∙ cond-true (admitted n) _ _ (h .2 .2)), h .2 .3))
 
-value-in : (r : Role) (c : Piece) (t : Tells) → valueBy r c ≡ Ok t → IsValue r c t
+pub value-in : (r : Role) (c : Piece) (t : Tells) → valueBy r c ≡ Ok t → IsValue r c t
 value-in Number c t e = all-in number-exact c t e
 value-in Expired c t e = all-in expired-exact c t e
 value-in Reason c t e = all-in reason-exact c t e
@@ -155,7 +155,7 @@ extension-exact context a = recast (λ p w e. IsExtension context p w e × Fresh
     (λ p w e h. (h .0 .0, h .0 .1, (h .0 .2, h .1)))
 
 -- the value of an extension, whatever else it says
-extension-value : (context : Context) (p : ℕ) (w : List ℕ) (e : Extn) → IsExtension context p w e → IsValue (roleOf context (e .identifier .octets)) (e .content) (e .tells)
+pub extension-value : (context : Context) (p : ℕ) (w : List ℕ) (e : Extn) → IsExtension context p w e → IsValue (roleOf context (e .identifier .octets)) (e .content) (e .tells)
 extension-value context p w e h =
     let k = h .2 in
     let d = k .1 .1 .3 .1 .1 .3 .1 in
@@ -166,7 +166,7 @@ extension-value context p w e h =
     subst (λ (v : Extn). IsValue (roleOf context (v .identifier .octets)) (v .content) (v .tells)) (sym q) (d .2 .1)
 
 -- an extension in its run
-step-exact : (context : Context) (a : Tells) → ExactIf Always (extensionStep context a) (λ p w x. IsExtension context p w (x .one) × Adds a (x .one) (x .two))
+pub step-exact : (context : Context) (a : Tells) → ExactIf Always (extensionStep context a) (λ p w x. IsExtension context p w (x .one) × Adds a (x .one) (x .two))
 step-exact context a = recast (λ p w (x : Both Extn Tells). IsExtension context p w (x .one) × Adds a (x .one) (x .two))
     (made (λ e. record { one = e; two = merged a (e .tells) }) (extension-exact context a))
     (λ p w x h.

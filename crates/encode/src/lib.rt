@@ -1,0 +1,2 @@
+// Writing items into lent memory.
+pub mod put;

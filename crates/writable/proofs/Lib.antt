@@ -1,0 +1,4 @@
+pub mod Lengths
+pub mod Built
+pub mod Timed
+pub mod Entered
