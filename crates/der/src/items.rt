@@ -41,7 +41,7 @@ fn fit(start: usize, len: usize, total: usize) -> Option<Head>
 }
 
 // The header of the item in front, or none where the octets break the rules.
-pub fn head(octets: &[u8]) -> Option<Head>
+pub(crate) fn head(octets: &[u8]) -> Option<Head>
     ensures is { λ r. ⌜ r ≡ headOf (now (octets .entry)) ⌝ }
     ensures within { λ r. ⌜ BySome r (Unit {0}) (λ h. (2 ≤ h .start) × (h .start + h .len ≤ length (now (octets .entry)))) ⌝ }
 {
@@ -72,7 +72,7 @@ pub fn head(octets: &[u8]) -> Option<Head>
 }
 
 // Whether the content may stand under the tag: that of an INTEGER or ENUMERATED has no needless first octet.
-pub fn is_shortest(tag: u8, content: &[u8]) -> bool
+pub(crate) fn is_shortest(tag: u8, content: &[u8]) -> bool
     ensures { λ r. ⌜ r ≡ shortest tag (now (content .entry)) ⌝ }
 {
     if tag != INTEGER && tag != ENUMERATED {
@@ -93,7 +93,7 @@ pub fn is_shortest(tag: u8, content: &[u8]) -> bool
 
 impl<'a> Item<'a> {
     // The item with this tag, where this is laid down.
-    pub fn of(laid: Laid, tag: u8, offset: usize, content: Part<'a>) -> Item<'a>
+    pub(crate) fn of(laid: Laid, tag: u8, offset: usize, content: Part<'a>) -> Item<'a>
         ensures thing { λ r. ⌜ thingOf r ≡ record { tag = tag; offset = offset; content = pieceOf (content .entry) } ⌝ }
         ensures number { λ r. ⌜ itemNumber r ≡ numberOfTag laid tag ⌝ }
     {

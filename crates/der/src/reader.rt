@@ -19,7 +19,7 @@ pub fn same(a: &[u8], b: &[u8]) -> bool
 }
 
 // The octets without the last `left` of them, as the part that begins at the offset.
-pub fn front(octets: &[u8], left: usize, offset: usize) -> Part
+pub(crate) fn front(octets: &[u8], left: usize, offset: usize) -> Part
     ensures { λ r. ⌜ pieceOf r ≡ record { octets = take (length (now (octets .entry)) - left) (now (octets .entry)); offset = offset } ⌝ }
 {
     let (octets, _) = octets.split_at(octets.len().saturating_sub(left));

@@ -11,7 +11,7 @@ use moment::texts::read_general;
 use moment::texts::read_utc;
 
 // The moment that the content of a time says, where the form is the one for its year.
-pub fn moment_in(form: TimeForm, octets: &[u8]) -> Option<u64>
+fn moment_in(form: TimeForm, octets: &[u8]) -> Option<u64>
     ensures { λ r. ⌜ r ≡ timeBy (timeTag form) (now (octets .entry)) ⌝ }
 {
     match form {

@@ -17,7 +17,7 @@ use der::refusal::*;
 use der::walk::*;
 
 // Whether the extension is critical: its flag is 01 01 FF, or nothing.
-pub fn flag(reader: &mut Reader) -> Result<bool, Fault>
+fn flag(reader: &mut Reader) -> Result<bool, Fault>
     ensures { λ r. ⌜ told (λ b. b) r (now (reader .exit)) ≡ flagAt (leftOf (now (reader .entry))) ⌝ }
 {
     let offset = reader.offset;
@@ -70,7 +70,7 @@ fn body<'a>(
 }
 
 // An extension, where these were told before it.
-pub fn read_extension<'a>(
+fn read_extension<'a>(
     reader: &mut Reader<'a>,
     context: Context,
     before: &Told<'a>,

@@ -75,7 +75,7 @@ fn reason(reader: &mut Reader) -> Result<Reason, Fault>
 }
 
 // What an extension with this role and content tells.
-pub fn value_by(role: Role, content: Part) -> Result<Told, Fault>
+pub(crate) fn value_by(role: Role, content: Part) -> Result<Told, Fault>
     requires { ⌜ content .offset + length (now (content .octets)) < 2 ^ 64 ⌝ }
     ensures { λ r. ⌜ seen tellsOf r ≡ valueBy role (pieceOf (content .entry)) ⌝ }
 {

@@ -108,7 +108,7 @@ impl Algorithm {
 }
 
 // The algorithm in the signed block.
-pub fn read_algorithm(reader: &mut Reader) -> Result<Algorithm, Fault>
+pub(crate) fn read_algorithm(reader: &mut Reader) -> Result<Algorithm, Fault>
     ensures { λ r. ⌜ told (λ a. a) r (now (reader .exit)) ≡ algorithmAt (leftOf (now (reader .entry))) ⌝ }
 {
     let offset = reader.offset;
@@ -120,7 +120,7 @@ pub fn read_algorithm(reader: &mut Reader) -> Result<Algorithm, Fault>
 }
 
 // The algorithm behind the signed block, which must be the block's, octet for octet.
-pub fn algorithm_again(reader: &mut Reader, algorithm: Algorithm) -> Result<(), Fault>
+pub(crate) fn algorithm_again(reader: &mut Reader, algorithm: Algorithm) -> Result<(), Fault>
     ensures { λ r. ⌜ told (λ u. u) r (now (reader .exit)) ≡ againAt algorithm (leftOf (now (reader .entry))) ⌝ }
 {
     let offset = reader.offset;

@@ -108,7 +108,7 @@ fn context<'a>(reader: &mut Reader<'a>) -> Result<ListTold<'a>, Fault>
 }
 
 // The content of the signed block.
-pub fn read_block<'a>(reader: &mut Reader<'a>) -> Result<Block<'a>, Fault>
+pub(crate) fn read_block<'a>(reader: &mut Reader<'a>) -> Result<Block<'a>, Fault>
     ensures { λ r. ⌜ told heldOf r (now (reader .exit)) ≡ blockAt (leftOf (now (reader .entry))) ⌝ }
 {
     version(reader)?;

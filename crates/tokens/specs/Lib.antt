@@ -1,0 +1,4 @@
+pub mod Hex
+pub mod Lines
+pub mod Runs
+pub mod Words

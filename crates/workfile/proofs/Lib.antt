@@ -1,0 +1,3 @@
+mod Steps
+mod Unprinted
+mod Verbs
