@@ -1,1 +1,2 @@
 mod Hexes
+pub mod EntryTexts

@@ -1,14 +1,17 @@
 -- The texts of what is said.
 use mathlib.Core.Bool.{cond}
 use mathlib.Core.List.{List, [], _∷_, _++_}
-use Prim.Native.Nat.{ℕ}
+use Prim.Native.Nat.{ℕ, zero, suc}
 use lib.Chars.{codes}
 use lib.ListN.{length, take}
 use Rattle.der.specs.Refusals.{groundNumber}
 use Rattle.der.specs.declared.refusal.Input.{Input}
 use Rattle.der.specs.declared.refusal.Input.the-variants.{Neither, List as InList, Roll}
 use Rattle.der.specs.declared.refusal.Refusal.{Refusal}
+use Rattle.der.specs.Reads.{Piece, pieceOf, mapped}
 use Rattle.entry.specs.declared.entries.Entry.{Entry}
+use Rattle.entry.specs.Entries.{Line, lineOf}
+use Rattle.crl.specs.Law.{entryIn, firstIn, restIn}
 use Rattle.extension.specs.Reasons.{reasonNumber}
 use Rattle.list.specs.Algorithms.{algorithmCode}
 use Rattle.list.specs.declared.algorithm.Algorithm.{Algorithm}
@@ -20,10 +23,6 @@ use Rattle.report.specs.declared.said.Said.the-variants.{Inspected, Refused}
 use Rattle.std.specs.Written.{decimal}
 use Rattle.std.specs.declared.option.Option.{Option}
 use Rattle.std.specs.declared.option.Option.the-variants.{Some, None}
-
-abbrev pub mapped : {X Y : Type 0} → (X → Y) → Option X → Option Y
-mapped f None = None
-mapped f (Some x) = Some (f x)
 
 -- The word for the input that a refusal stands in.
 abbrev pub input-word : Input → List ℕ
@@ -44,8 +43,24 @@ reason-text None = codes "-"
 reason-text (Some n) = decimal n
 
 -- One entry: a line break and two spaces come first.
+abbrev pub line-text : Line → List ℕ
+line-text e = (10 ∷ codes "  entry ") ++ (hexed (e .serial .octets) ++ (32 ∷ (moment-text (e .date) ++ (32 ∷ reason-text (e .reason)))))
+
 abbrev pub entry-text : Entry → List ℕ
-entry-text e = (10 ∷ codes "  entry ") ++ (hexed (e .serial .octets .now) ++ (32 ∷ (moment-text (e .date) ++ (32 ∷ reason-text (mapped reasonNumber (e .reason))))))
+entry-text e = line-text (lineOf e)
+
+-- So many entries off the front of a run, in its order.
+abbrev pub first-text : Option Line → List ℕ → List ℕ
+first-text None rest = []
+first-text (Some e) rest = line-text e ++ rest
+
+unfoldable pub run-text : ℕ → Piece → List ℕ
+run-text zero c = []
+run-text (suc n) c = first-text (firstIn (entryIn c)) (run-text n (restIn c (entryIn c)))
+
+abbrev pub entries-text : Option Piece → ℕ → List ℕ
+entries-text None n = []
+entries-text (Some c) n = run-text n c
 
 -- A part's offset and length.
 abbrev pub place-text : ℕ → List ℕ → List ℕ
@@ -62,7 +77,11 @@ block-text b = (10 ∷ codes "  issuer ") ++ (place-text (b .issuer .offset) (b 
 abbrev pub signed-text : RevocationList → List ℕ
 signed-text l = (10 ∷ codes "  signed block ") ++ (place-text (l .signed .item .offset) (l .signed .item .octets .now) ++ ((10 ∷ codes "  signature ") ++ (place-text (l .signature .item .offset) (l .signature .item .octets .now) ++ ((10 ∷ codes "  entries ") ++ decimal (l .signed .block .entries .count)))))
 
--- What is said of a refused command. What a list holds is printed line by line, and not said here.
-abbrev pub said-text : Said → Option (List ℕ)
-said-text (Inspected label length list) = None
-said-text (Refused verb label refused) = Some (verb .now ++ (32 ∷ (label .now ++ (codes ": " ++ refused-text (refused .refusal) (refused .rest .now)))))
+-- All that a list holds.
+unfoldable pub list-text : RevocationList → List ℕ
+list-text l = algorithm-text (l .signed .block .algorithm) ++ (block-text (l .signed .block) ++ (signed-text l ++ entries-text (mapped pieceOf (l .signed .block .entries .run)) (l .signed .block .entries .count)))
+
+-- What is said of a command.
+abbrev pub said-text : Said → List ℕ
+said-text (Inspected label length list) = codes "inspect " ++ (label .now ++ (codes ": " ++ (decimal length ++ (codes " octets" ++ list-text list))))
+said-text (Refused verb label refused) = verb .now ++ (32 ∷ (label .now ++ (codes ": " ++ refused-text (refused .refusal) (refused .rest .now))))

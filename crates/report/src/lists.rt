@@ -2,8 +2,9 @@
 ghost use mathlib.Core.Path.{_≡_};
 ghost use denote.Ref.{now};
 ghost use Rattle.std.specs.declared.option.Option.the-variants.{Some, None};
+ghost use Rattle.der.specs.Reads.{mapped, pieceOf};
 ghost use Rattle.extension.specs.Reasons.{reasonNumber};
-ghost use Rattle.report.specs.Said.{algorithm-text, block-text, entry-text, mapped, signed-text};
+ghost use Rattle.report.specs.Said.{algorithm-text, block-text, entry-text, entries-text, list-text, signed-text};
 use crate::values::*;
 use crl::read::next_entry;
 use entry::entries::Entry;
@@ -43,12 +44,14 @@ fn reason_number(reason: Option<Reason>) -> Option<u8>
 pub struct EntryLines<'a>(pub Entries<'a>);
 
 pub impl<'a> fmt::Display for EntryLines<'a> as EntryLinesDisplay {
+    ghost shown = { λ e. Some (entries-text (mapped pieceOf (e .0 .run)) (e .0 .count)) };
+
     fn fmt<W: fmt::Write>(&self, f: &mut fmt::Formatter<W>) -> fmt::Result {
-        let Some(mut run) = self.0.run else {
+        let Some(mut left) = self.0.run else {
             return Ok(());
         };
-        for _ in 0..self.0.count {
-            let Some(entry) = next_entry(&mut run) else {
+        for turn in 0..self.0.count {
+            let Some(entry) = next_entry(&mut left) else {
                 return Ok(());
             };
             let line = EntryLine(entry);
@@ -114,6 +117,8 @@ pub impl<'a> fmt::Display for SignedLines<'a> as SignedLinesDisplay {
 pub struct ListLines<'a>(pub RevocationList<'a>);
 
 pub impl<'a> fmt::Display for ListLines<'a> as ListLinesDisplay {
+    ghost shown = { λ l. Some (list-text (l .0)) };
+
     fn fmt<W: fmt::Write>(&self, f: &mut fmt::Formatter<W>) -> fmt::Result {
         let algorithm = AlgorithmLine(self.0.signed.block.algorithm);
         let block = BlockLines(self.0.signed.block);

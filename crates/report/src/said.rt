@@ -72,7 +72,7 @@ pub enum Said<'a, 'o> {
 }
 
 pub impl<'a, 'o> fmt::Display for Said<'a, 'o> as SaidDisplay {
-    ghost shown = { said-text };
+    ghost shown = { λ s. Some (said-text s) };
 
     fn fmt<W: fmt::Write>(&self, f: &mut fmt::Formatter<W>) -> fmt::Result {
         match *self {
