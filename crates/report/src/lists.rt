@@ -4,6 +4,8 @@ ghost use denote.Ref.{now};
 ghost use Rattle.std.specs.declared.option.Option.the-variants.{Some, None};
 ghost use Rattle.der.specs.Reads.{mapped, pieceOf};
 ghost use Rattle.extension.specs.Reasons.{reasonNumber};
+ghost use Rattle.list.specs.Blocks.{heldOf};
+ghost use Rattle.list.specs.Lists.{listingOf};
 ghost use Rattle.report.specs.Said.{algorithm-text, block-text, entry-text, entries-text, list-text, signed-text};
 use crate::values::*;
 use crl::read::next_entry;
@@ -79,7 +81,7 @@ pub impl fmt::Display for AlgorithmLine as AlgorithmLineDisplay {
 pub struct BlockLines<'a>(pub Block<'a>);
 
 pub impl<'a> fmt::Display for BlockLines<'a> as BlockLinesDisplay {
-    ghost shown = { λ b. Some (block-text (b .0)) };
+    ghost shown = { λ b. Some (block-text (heldOf (b .0))) };
 
     fn fmt<W: fmt::Write>(&self, f: &mut fmt::Formatter<W>) -> fmt::Result {
         let issuer = Place(self.0.issuer);
@@ -99,7 +101,7 @@ pub impl<'a> fmt::Display for BlockLines<'a> as BlockLinesDisplay {
 pub struct SignedLines<'a>(pub RevocationList<'a>);
 
 pub impl<'a> fmt::Display for SignedLines<'a> as SignedLinesDisplay {
-    ghost shown = { λ l. Some (signed-text (l .0)) };
+    ghost shown = { λ l. Some (signed-text (listingOf (l .0))) };
 
     fn fmt<W: fmt::Write>(&self, f: &mut fmt::Formatter<W>) -> fmt::Result {
         let block = Place(self.0.signed.item);
@@ -117,7 +119,7 @@ pub impl<'a> fmt::Display for SignedLines<'a> as SignedLinesDisplay {
 pub struct ListLines<'a>(pub RevocationList<'a>);
 
 pub impl<'a> fmt::Display for ListLines<'a> as ListLinesDisplay {
-    ghost shown = { λ l. Some (list-text (l .0)) };
+    ghost shown = { λ l. Some (list-text (listingOf (l .0))) };
 
     fn fmt<W: fmt::Write>(&self, f: &mut fmt::Formatter<W>) -> fmt::Result {
         let algorithm = AlgorithmLine(self.0.signed.block.algorithm);

@@ -5,6 +5,7 @@ ghost use Prim.Native.Nat.{_<_};
 ghost use lib.ListN.{length, take};
 ghost use Rattle.std.specs.Options.{Cases as BySome};
 ghost use Rattle.std.specs.declared.option.Option.the-variants.{Some, None};
+ghost use Rattle.der.specs.Refusals.{inputNumber, refusedOf};
 ghost use Rattle.report.specs.Said.{input-word, refused-text, said-text};
 use crate::lists::*;
 use crate::values::*;
@@ -24,7 +25,7 @@ const SHOWN: usize = 8;
 
 // The input that a refusal stands in.
 fn input_word(input: Input) -> &'static str
-    ensures { λ r. ⌜ now r ≡ input-word input ⌝ }
+    ensures { λ r. ⌜ now r ≡ input-word (inputNumber input) ⌝ }
 {
     match input {
         Input::Neither => "-",
@@ -45,7 +46,7 @@ fn first_octets(rest: &[u8]) -> Option<Hex<'_>>
 }
 
 pub impl<'o> fmt::Display for Refused<'o> as RefusedDisplay {
-    ghost shown = { λ r. Some (refused-text (r .refusal) (now (r .rest))) };
+    ghost shown = { λ r. Some (refused-text (refusedOf (r .refusal)) (now (r .rest))) };
 
     fn fmt<W: fmt::Write>(&self, f: &mut fmt::Formatter<W>) -> fmt::Result {
         let number = self.refusal.ground.number();

@@ -1,0 +1,6 @@
+-- What the compression function's proofs share.
+mod Spell
+mod WordLaws
+mod BlockLaws
+mod LaneLaws
+mod WindowLaws
