@@ -38,7 +38,7 @@ laid-more (d ∷ es) e (x ∷ out) = kept-past d (laid es out) (length es) e ∙
 
 module _ {S E : Type 0} (M : S → Left → Result E Fault → S → Left → Type 0) (a : S) (s : Left) (out : List E) where
   pub onward-none : Onward M a s 0 a s out out
-  onward-none = ([], refl, (λ es o z r. r), sym (laid-none out))
+  onward-none = ([], refl, (λ es o z u r. r), sym (laid-none out))
 
   module _ (n : ℕ) (b : S) (t : Left) (now : List E) (o : Onward M a s n b t out now) (r : Result E Fault) (c : S) (u : Left) (m : M b t r c u) where
     -- what the memory holds after one more
@@ -49,13 +49,13 @@ module _ {S E : Type 0} (M : S → Left → Result E Fault → S → Left → Ty
     onward-more e was l h = (
       o .0 ++ e ∷ [],
       simp length-append (omega (arith, o .1)),
-      (λ es x z k. let j = o .2 (e ∷ es) x z (more (subst (λ q. M b t q c u) was m) l h k) in rw append-assoc j),
+      (λ es x z v k. let j = o .2 (e ∷ es) x z v (more (subst (λ q. M b t q c u) was m) l h k) in rw append-assoc j),
       next-now e,
     )
 
-    pub onward-last : (e : E) → r ≡ Ok e → length (u .rest) ≡ 0 → Walked M a s (Ok (n + 1)) c out (kept now n e)
+    pub onward-last : (e : E) → r ≡ Ok e → length (u .rest) ≡ 0 → Walked M a s (Ok (n + 1)) c u out (kept now n e)
     onward-last e was h =
-        (o .0 ++ e ∷ [], simp length-append (omega (arith, o .1)), o .2 (e ∷ []) None c (last (subst (λ q. M b t q c u) was m) h), next-now e)
+        (o .0 ++ e ∷ [], simp length-append (omega (arith, o .1)), o .2 (e ∷ []) None c u (last (subst (λ q. M b t q c u) was m) h), next-now e)
 
-    pub onward-stop : (f : Fault) → r ≡ Err f → Walked M a s (Err f) c out now
-    onward-stop f was = (o .0 ++ [], o .2 [] (Some f) c (stopped (subst (λ q. M b t q c u) was m)), o .3 ∙ ap (λ es. laid es out) (sym (append-nil (o .0))))
+    pub onward-stop : (f : Fault) → r ≡ Err f → Walked M a s (Err f) c u out now
+    onward-stop f was = (o .0 ++ [], o .2 [] (Some f) c u (stopped (subst (λ q. M b t q c u) was m)), o .3 ∙ ap (λ es. laid es out) (sym (append-nil (o .0))))

@@ -40,6 +40,7 @@ impl<'a> Reader<'a> {
     // Reads the item in front and goes past it.
     pub fn item(&mut self, laid: Laid) -> Result<Item<'a>, Fault>
         ensures read { λ r. ⌜ told thingOf r (now (self .exit)) ≡ itemAt (leftOf (now (self .entry))) ⌝ }
+        ensures stays { λ r. ⌜ ByOk r (λ _. Unit {0}) (λ _. leftOf (now (self .exit)) ≡ leftOf (now (self .entry))) ⌝ }
         ensures number { λ r. ⌜ ByOk r (λ i. itemNumber i ≡ numberOfTag laid (thingOf i .tag)) (λ _. Unit {0}) ⌝ }
         ensures within { λ r. ⌜ ByOk r (λ i. thingOf i .content .offset + length (thingOf i .content .octets) < 2 ^ 64) (λ _. Unit {0}) ⌝ }
         ensures long { λ r. ⌜ ByOk r (λ _. length (now (now (self .exit) .rest)) + 2 ≤ length (now (now (self .entry) .rest))) (λ _. Unit {0}) ⌝ }
@@ -139,7 +140,8 @@ impl<'a> Reader<'a> {
 
     // Nothing may be left: an item that is left is one too many, if it is an item at all.
     pub fn end(&mut self) -> Result<(), Fault>
-        ensures { λ r. ⌜ seen (λ u. u) r ≡ endAt (leftOf (now (self .entry))) ⌝ }
+        ensures end { λ r. ⌜ seen (λ u. u) r ≡ endAt (leftOf (now (self .entry))) ⌝ }
+        ensures still { λ r. ⌜ ByOk r (λ _. leftOf (now (self .exit)) ≡ leftOf (now (self .entry))) (λ _. Unit {0}) ⌝ }
     {
         let offset = self.offset;
         if self.rest.len() == 0 {

@@ -41,7 +41,7 @@ pub fn walk<'a, S, E: Readable<'a, S> + Drop>(
     state: &mut S,
     out: &mut [E],
 ) -> Result<usize, Fault>
-    ensures { λ r. ⌜ Walked (E·Readable .means) (now (state .entry)) (leftOf (now (reader .entry))) r (now (state .exit)) (now (out .entry)) (now (out .exit)) ⌝ }
+    ensures { λ r. ⌜ Walked (E·Readable .means) (now (state .entry)) (leftOf (now (reader .entry))) r (now (state .exit)) (leftOf (now (reader .exit))) (now (out .entry)) (now (out .exit)) ⌝ }
 {
     let mut count = 0;
     loop {

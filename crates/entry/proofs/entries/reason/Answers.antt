@@ -24,13 +24,13 @@ pub returns-in-Break--count : need.returns-in-Break--count
 unfolding reasonsAt
 returns-in-Break--count c =
     let e : runOf (extensionStep InEntry) silent (pieceOf (c .in-Continue-content .content)) ≡ Err (flawOf (c .in-Break--count .field-0 .0)) =
-    ap (λ a. runOf (extensionStep InEntry) a (pieceOf (c .in-Continue-content .content))) (sym (c .untold .ensures)) ∙ walk-err extensionOf entryTells (extensionStep InEntry) _ _ _ _ _ _ (c .in-Break--count .ensures tt) in
+    ap (λ a. runOf (extensionStep InEntry) a (pieceOf (c .in-Continue-content .content))) (sym (c .untold .ensures)) ∙ walk-err extensionOf entryTells (extensionStep InEntry) _ _ _ _ _ _ _ (c .in-Break--count .ensures tt) in
     search needs
 
 pub returns : need.returns
 unfolding reasonsAt
 returns c =
-    let w = walk-ok extensionOf entryTells (extensionStep InEntry) _ _ _ _ _ _ (c .in-Continue--count .ensures tt) in
+    let w = walk-ok extensionOf entryTells (extensionStep InEntry) _ _ _ _ _ _ _ (c .in-Continue--count .ensures tt) in
     let e : runOf (extensionStep InEntry) silent (pieceOf (c .in-Continue-content .content)) ≡ Ok (record { one = map extensionOf (w .0); two = entryTells (c .walk .last .state) }) =
     ap (λ a. runOf (extensionStep InEntry) a (pieceOf (c .in-Continue-content .content))) (sym (c .untold .ensures)) ∙ w .2 in
     search needs

@@ -23,13 +23,13 @@ returns-in-Break-content c = search needs
 pub returns-in-Break-count : need.returns-in-Break-count
 unfolding entriesAt
 returns-in-Break-count c =
-    let e : runOf entryStep tt (pieceOf (c .in-Continue-content .content)) ≡ Err (flawOf (c .in-Break-count .field-0 .0)) = walk-err lineOf plainOf entryStep _ _ _ _ _ _ (c .in-Break-count .ensures tt) in
+    let e : runOf entryStep tt (pieceOf (c .in-Continue-content .content)) ≡ Err (flawOf (c .in-Break-count .field-0 .0)) = walk-err lineOf plainOf entryStep _ _ _ _ _ _ _ (c .in-Break-count .ensures tt) in
     search needs
 
 pub returns : need.returns
 unfolding entriesAt
 returns c =
-    let w = walk-ok lineOf plainOf entryStep _ _ _ _ _ _ (c .in-Continue-count .ensures tt) in
+    let w = walk-ok lineOf plainOf entryStep _ _ _ _ _ _ _ (c .in-Continue-count .ensures tt) in
     let e : runOf entryStep tt (pieceOf (c .in-Continue-content .content)) ≡ Ok (record { one = map lineOf (w .0); two = tt }) = w .2 in
     let n : c .in-Continue-count .count ≡ length (map lineOf (w .0)) = w .1 ∙ sym (length-map (w .0) lineOf) in
     search needs

@@ -20,13 +20,13 @@ pub returns-in-Break--count : need.returns-in-Break--count
 unfolding toldAt
 returns-in-Break--count c =
     let e : runOf (extensionStep InList) silent (pieceOf (c .in-Continue-content .content)) ≡ Err (flawOf (c .in-Break--count .field-0 .0)) =
-    ap (λ a. runOf (extensionStep InList) a (pieceOf (c .in-Continue-content .content))) (sym (c .untold .ensures)) ∙ walk-err extensionOf listTells (extensionStep InList) _ _ _ _ _ _ (c .in-Break--count .ensures tt) in
+    ap (λ a. runOf (extensionStep InList) a (pieceOf (c .in-Continue-content .content))) (sym (c .untold .ensures)) ∙ walk-err extensionOf listTells (extensionStep InList) _ _ _ _ _ _ _ (c .in-Break--count .ensures tt) in
     search needs
 
 pub returns-in-None : need.returns-in-None
 unfolding toldAt
 returns-in-None c =
-    let w = walk-ok extensionOf listTells (extensionStep InList) _ _ _ _ _ _ (c .in-Continue--count .ensures tt) in
+    let w = walk-ok extensionOf listTells (extensionStep InList) _ _ _ _ _ _ _ (c .in-Continue--count .ensures tt) in
     let e : runOf (extensionStep InList) silent (pieceOf (c .in-Continue-content .content)) ≡ Ok (record { one = map extensionOf (w .0); two = listTells (c .walk .last .state) }) =
     ap (λ a. runOf (extensionStep InList) a (pieceOf (c .in-Continue-content .content))) (sym (c .untold .ensures)) ∙ w .2 in
     search needs
@@ -34,7 +34,7 @@ returns-in-None c =
 pub returns-in-Some : need.returns-in-Some
 unfolding toldAt
 returns-in-Some c =
-    let w = walk-ok extensionOf listTells (extensionStep InList) _ _ _ _ _ _ (c .in-Continue--count .ensures tt) in
+    let w = walk-ok extensionOf listTells (extensionStep InList) _ _ _ _ _ _ _ (c .in-Continue--count .ensures tt) in
     let e : runOf (extensionStep InList) silent (pieceOf (c .in-Continue-content .content)) ≡ Ok (record { one = map extensionOf (w .0); two = listTells (c .walk .last .state) }) =
     ap (λ a. runOf (extensionStep InList) a (pieceOf (c .in-Continue-content .content))) (sym (c .untold .ensures)) ∙ w .2 in
     search needs

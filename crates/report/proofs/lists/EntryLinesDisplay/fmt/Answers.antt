@@ -38,8 +38,8 @@ loop-turn-again g c =
     let m : n ≡ suc (n - 1) = omega arith in
     let k : n - 1 ≡ count - (c .loop-turn .turn + 1) = omega arith in
     let e : run-text n p ≡ line-text l ++ run-text (count - (c .loop-turn .turn + 1)) q =
-        ap (λ j. run-text j p) m ∙ run-more (n - 1) p l (sym (c .in-Some-next-entry .ensures tt .entry))
-        ∙ ap (λ r. line-text l ++ run-text (n - 1) r) (sym (c .in-Some-next-entry .ensures tt .rest)) ∙ ap (λ j. line-text l ++ run-text j q) k in
+    ap (λ j. run-text j p) m ∙ run-more (n - 1) p l (sym (c .in-Some-next-entry .ensures tt .entry))
+    ∙ ap (λ r. line-text l ++ run-text (n - 1) r) (sym (c .in-Some-next-entry .ensures tt .rest)) ∙ ap (λ j. line-text l ++ run-text j q) k in
     (b .0 ++ line-text l, put-more (g .W·Write .took) _ _ _ _ _ (b .1) (w (b .1 .plain) refl), append-assoc (b .0) (line-text l) _ ∙ ap (λ z. b .0 ++ z) (sym e) ∙ b .2)
 
 pub returns : need.returns
