@@ -5,4 +5,3 @@ pub mod Spelling
 pub mod Inverses
 pub mod Orders
 pub mod Refusals
-pub mod Worked

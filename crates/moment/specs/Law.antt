@@ -3,7 +3,6 @@ use mathlib.Core.Path.{_≡_}
 use mathlib.Core.List.{List}
 use mathlib.Core.Logic.{_⊎_}
 use Prim.Native.Nat.{ℕ, _<_, _≤_}
-use lib.Chars.{codes}
 use lib.Dec.{ltb}
 use Rattle.std.specs.declared.option.Option.{Option}
 use Rattle.std.specs.declared.option.Option.the-variants.{Some, None}
@@ -55,10 +54,3 @@ NoHour t = (23 < t .hour) ⊎ ((59 < t .minute) ⊎ (59 < t .second))
 -- where the digits of a text spell no day or no time of day, it is no moment
 abbrev pub Only-existing-times : (List ℕ → Option ℕ) → (List ℕ → Time) → Type 0
 Only-existing-times read spelled = (xs : List ℕ) → NoDay (spelled xs .date) ⊎ NoHour (spelled xs) → read xs ≡ None
-
--- the first moment, the last that a UTCTime can say, and a day that 2001 did not have
-abbrev pub Worked-moments : Type 0
-Worked-moments =
-    (utcRead (codes "500101000000Z") ≡ Some 0)
-    × (utcRead (codes "491231235959Z") ≡ Some 3155759999)
-    × (utcRead (codes "010229000000Z") ≡ None)

@@ -1,14 +1,12 @@
 // The texts of moments, written and read.
 ghost use mathlib.Core.Path.{_≡_};
-ghost use mathlib.Core.List.{[], _∷_};
 ghost use Prim.Native.Nat.{_+_, _*_, _<_};
-ghost use Rattle.std.specs.declared.option.Option.the-variants.{Some, None};
 ghost use Rattle.moment.specs.Forms.{TwoDigits};
 ghost use Rattle.moment.specs.Texts.{digitsOf, fullYear, yearAt, timeIn};
 ghost use Rattle.moment.specs.Texts.{utcText, utcRead, utcTime, generalText, generalRead, generalTime};
 ghost use Rattle.moment.specs.Texts.{rfc3339Text, rfc3339Read, rfc3339Time};
 ghost use Rattle.moment.specs.Law.{UtcTime-inverse, GeneralizedTime-inverse, Rfc3339-inverse};
-ghost use Rattle.moment.specs.Law.{GeneralizedTime-ordered, Rfc3339-ordered, Only-existing-times, Worked-moments};
+ghost use Rattle.moment.specs.Law.{GeneralizedTime-ordered, Rfc3339-ordered, Only-existing-times};
 use crate::forms::fits;
 use crate::forms::pair;
 use crate::forms::two;
@@ -161,16 +159,4 @@ pub fn read_utc(text: &[u8]) -> Option<u64>
         return None;
     }
     moment_of(time_in(text, full_year(pair(text, 0)), 2, 2))
-}
-
-// The first moment, the last that a UTCTime can say, and a day that 2001 did not have.
-pub fn worked_moments() -> [Option<u64>; 3]
-    ensures worked { λ _. ⌜ Worked-moments ⌝ }
-    ensures values { λ r. ⌜ r ≡ Some 0 ∷ Some 3155759999 ∷ None ∷ [] ⌝ }
-{
-    [
-        read_utc(b"500101000000Z"),
-        read_utc(b"491231235959Z"),
-        read_utc(b"010229000000Z"),
-    ]
 }

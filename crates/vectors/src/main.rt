@@ -1,6 +1,7 @@
 //! The published vectors of SHA-256 and HMAC-SHA-256: each digest beside what it should be, and whether they agree.
 //! Then the digest of a pattern at each length from 0 to 130, which tests/digest_lengths.py holds to another implementation.
-//! Ends with an error if any two differ.
+//! Last the shortest list there is, 30 00, with the refusal that it gets. Ends with an error if anything differs.
+use crl::read::read_list;
 use digest::Hasher;
 use digest::hmac_sha256;
 use digest::same_digest;
@@ -225,6 +226,21 @@ fn lengths(rt: &LibcRuntime) -> io::Result<bool> {
     Ok(all)
 }
 
+// The list 30 00 misses its signed block: ground 6, in the list, at offset 2.
+fn shortest_list(rt: &LibcRuntime) -> io::Result<bool> {
+    let agree = match read_list(&[0x30, 0x00]) {
+        Ok(_) => false,
+        Err(refusal) => refusal.ground.number() == 6
+            && refusal.input.number() == 1
+            && refusal.offset == 2,
+    };
+    println!(
+        rt,
+        "the list 30 00 is refused with 6, input 1, place 2: {agree}"
+    )?;
+    Ok(agree)
+}
+
 fn main(rt: LibcRuntime) -> Result<(), AnyError> {
     let a = hold(&rt, &examples())?;
     let letters = Vec::from_elem(rt.alloc(), b'a', 1_000_000)?;
@@ -236,7 +252,8 @@ fn main(rt: LibcRuntime) -> Result<(), AnyError> {
         "HMAC, RFC 4231 cases 6 and 7: left out, their keys have 131 octets"
     )?;
     let e = lengths(&rt)?;
-    if a & b & c & d & e {
+    let f = shortest_list(&rt)?;
+    if a & b & c & d & e & f {
         println!(rt, "all agree")?;
         Ok(())
     } else {

@@ -1,0 +1,5 @@
+pub mod Scans
+pub mod Tables
+pub mod Rulings
+pub mod Unique
+pub mod Exact

@@ -1,0 +1,5 @@
+pub mod Cases
+pub mod Rule
+pub mod Table
+pub mod Answers
+pub mod Law
