@@ -1,2 +1,4 @@
 // Signature algorithms of lists.
+#![tactic(auto)]
+
 pub mod identifiers;

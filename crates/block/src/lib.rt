@@ -1,2 +1,4 @@
 // The signed block of a list.
+#![tactic(auto)]
+
 pub mod fields;

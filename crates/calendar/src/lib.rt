@@ -1,4 +1,6 @@
 // The Gregorian calendar from 1950 to 9999, and moments on it: the seconds since 1950-01-01 00:00:00 UTC.
+#![tactic(auto)]
+
 ghost use Rattle.std.specs.Prelude.{◌≡◌, ◌+◌, ◌-◌, ◌<◌, ◌≤◌};
 ghost use Rattle.calendar.specs.Dates.{leap_year, days_in, days_to, month_start, is_date, day_of, date_of};
 ghost use Rattle.calendar.specs.Law.{DaysAndDates};

@@ -1,4 +1,6 @@
 // Runs work files whose output is known octet by octet.
+#![tactic(auto)]
+
 use work::running::*;
 
 fn main(rt: HostRuntime) -> Result<(), Halt> {

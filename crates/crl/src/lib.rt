@@ -1,2 +1,4 @@
 // The revocation list: read exactly where the octets are one in the profile.
+#![tactic(auto)]
+
 pub mod read;

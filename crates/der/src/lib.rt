@@ -1,3 +1,5 @@
 // The reader of DER: octets, item by item.
+#![tactic(auto)]
+
 pub mod cursor;
 pub mod reader;

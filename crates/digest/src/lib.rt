@@ -1,4 +1,6 @@
 //! SHA-256 (FIPS 180-4) and HMAC with it (FIPS 198-1), and the comparison of two digests.
+#![tactic(auto)]
+
 mod constants;
 mod hash;
 mod hasher;

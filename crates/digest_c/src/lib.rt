@@ -1,4 +1,6 @@
 //! SHA-256 under a name that C and Rust can call: for the benchmark alone.
+#![tactic(auto)]
+
 ghost use Rattle.std.specs.Prelude.{◌≡◌};
 ghost use Rattle.digest.specs.Sha256.{sha256 as hash_of};
 

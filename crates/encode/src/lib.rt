@@ -1,2 +1,4 @@
 // Writing items into lent memory.
+#![tactic(auto)]
+
 pub mod put;

@@ -1,4 +1,6 @@
 // Moments as text: UTCTime, GeneralizedTime and RFC 3339.
+#![tactic(auto)]
+
 mod forms;
 pub mod texts;
 

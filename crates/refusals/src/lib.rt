@@ -1,3 +1,5 @@
 // Refusals: grounds, inputs and offsets, and what is shown of a refused input.
+#![tactic(auto)]
+
 pub mod grounds;
 pub mod show;

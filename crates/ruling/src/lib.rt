@@ -1,4 +1,6 @@
 // What taken lists rule on a certificate: how one list rules, and the answer that all rulings give together.
+#![tactic(auto)]
+
 pub mod answers;
 pub mod cases;
 pub mod drawing;

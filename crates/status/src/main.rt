@@ -1,4 +1,6 @@
 // The program: it carries out the work files that its arguments name.
+#![tactic(auto)]
+
 use work::running::*;
 
 const USAGE: &str = "usage: status FILE..    carries out work files; - stands for standard input

@@ -1,6 +1,8 @@
 //! The published vectors of SHA-256 and HMAC-SHA-256: each digest beside what it should be, and whether they agree.
 //! Then the digest of a pattern at each length from 0 to 130, which tests/digest_lengths.py holds to another implementation.
 //! Last the shortest list there is, 30 00, with the refusal that it gets. Ends with an error if anything differs.
+#![tactic(auto)]
+
 use anyhow::anyhow;
 use crl::read::read_list;
 use digest::{Hasher, hmac_sha256, same_digest, sha256};

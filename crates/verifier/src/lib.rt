@@ -1,2 +1,4 @@
 // Who may say that a list is genuine.
+#![tactic(auto)]
+
 pub mod verifier;

@@ -1,4 +1,6 @@
 // The worked cases: ten rulings and three moments, each with the answer that is due.
+#![tactic(auto)]
+
 ghost use Rattle.std.specs.Prelude.{◌≡◌, [], ◌∷◌, map, Some, None};
 ghost use Rattle.ruling.specs.Cases.{answer_of, ruling_of};
 ghost use Rattle.worked.specs.Cases.{ruled_at, answered_at, listing, cases, due_answers, due_moments, AllWorked};
