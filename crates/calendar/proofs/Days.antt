@@ -1,5 +1,5 @@
 -- Days and dates are inverse.
-use Rattle.std.proofs.Common.{◌≡◌, ℕ, suc, ◌+◌, ◌-◌, ◌<◌, ◌≤◌, Bool, true, false, cond, ◌&&◌, ltb, leb, Some, None, Option, sym, ap, ◌∙◌, inl, inr, arith}
+use Rattle.std.proofs.Common.{◌≡◌, ℕ, suc, ◌+◌, ◌-◌, ◌<◌, ◌≤◌, Bool, true, cond, ◌&&◌, ltb, leb, Some, None, Option, sym, ap, ◌∙◌, inl, inr, arith}
 use Rattle.std.proofs.lemmas.Bool.{cases_lt, cases_Bool, and_parts, and_from, leb-true, le-leb, ltb-true, lt-ltb, cond-true}
 use Rattle.calendar.specs.Dates.{year_days, days_to, days_in, month_start, is_date, day_in, years_by, month_on, date_in}
 use Rattle.calendar.specs.Dates.{date_on}
@@ -153,13 +153,6 @@ answered {A} b y z e =
 
 pub answers : {A : Type 0} (b : Bool) (y z : A) → b ≡ true → y ≡ z → cond b (Some y) None ≡ Some z
 answers b y z t e = cond-true b (Some y) None t ∙ ap Some e
-
-pub unanswered : {A : Type 0} (b : Bool) (y : A) → None ≡ cond b (Some y) None → b ≡ false
-unanswered b y e =
-    elim (cases_Bool b) [
-      | inl t ↦ absurd (let f = e ∙ cond-true b (Some y) None t in let q : ◌≡◌ {A = ℕ} 0 1 = cc in omega arith)
-      | inr t ↦ t
-    ]
 
 pub days-and-dates : DaysAndDates
 days-and-dates x d = (

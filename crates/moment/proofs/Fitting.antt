@@ -24,12 +24,6 @@ digit_at (f ∷ fs) (x ∷ xs) zero e z =
     sym (cond-true (eqb f 48) (digit x) (eqb x f) (eq-eqb f 48 z)) ∙ (and_parts (fills f x) (fits fs xs) e).0
 digit_at (f ∷ fs) (x ∷ xs) (suc k) e z = digit_at fs xs k (and_parts (fills f x) (fits fs xs) e).1 z
 
--- no digit stands past the end
-pub digit-within : (xs : List ℕ) (k : ℕ) → digit (get_or xs k 0) ≡ true → k < length xs
-digit-within [] k e = absurd (both_ways false refl e)
-digit-within (x ∷ xs) zero e = omega arith
-digit-within (x ∷ xs) (suc k) e = let h = digit-within xs k e in omega arith
-
 -- one octet further
 pub fits_more : (form xs : List ℕ) (k : ℕ) → k < length form → k < length xs
     → fits (drop k form) (drop k xs) ≡ (fills (get_or form k 0) (get_or xs k 0) && fits (drop (k + 1) form) (drop (k + 1) xs))

@@ -1,4 +1,4 @@
-use Rattle.std.proofs.Common.{◌≡◌, suc, ◌+◌, sym, ap, ◌∙◌, arith}
+use Rattle.std.proofs.Common.{◌≡◌, suc, ◌+◌, sym, ap, arith}
 use Rattle.calendar.specs.Dates.{month_start}
 use Rattle.calendar.proofs.Years.{month-next, no-months, month-short}
 use Rattle.calendar.proofs.month_start.Goals as goal
@@ -14,8 +14,3 @@ loop-m-preserved c =
       omega (arith, ap (month_start c.args.year) i, month-next c.args.year m, c.days_in.ensures),
       omega (arith, month-short c.args.year m, c.days_in.ensures),
     )
-
-pub returns : goal.returns
-returns c =
-    let e : c.loop-m.m ≡ c.args.month = omega arith in
-    (c.loop-m.invariant.0 ∙ ap (month_start c.args.year) e, omega arith)

@@ -17,9 +17,3 @@ loop-year-preserved c =
     let b : days_to (c.loop-year.year + 1 - 1950) ≤ c.args.day = omega arith in
     let w = year-within (c.loop-year.year + 1 - 1950) c.args.day b c.requires in
     (omega arith, b, omega arith)
-
-pub returns : goal.returns
-returns c =
-    let e : c.loop-year.year + 1 - 1950 ≡ c.loop-year.year - 1950 + 1 = omega (arith, c.loop-year.invariant) in
-    let v = c.loop-year.invariant in
-    (v.0, v.2, v.1, omega (arith, ap days_to e))

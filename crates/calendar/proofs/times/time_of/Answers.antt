@@ -1,9 +1,9 @@
-use Rattle.std.proofs.Common.{◌≡◌, ◌/◌, ◌%◌, ◌<◌, ltb, sym, ap, arith}
-use Rattle.std.proofs.lemmas.Bool.{cond-false, lt-ltb, both_ways, leb-true}
+use Rattle.std.proofs.Common.{◌≡◌, ◌/◌, ◌%◌, ltb, sym, ap}
+use Rattle.std.proofs.lemmas.Bool.{cond-false}
 use Rattle.calendar.specs.Dates.{date_on}
 use Rattle.calendar.specs.Moments.{is_moment, time_at, time_of}
 use Rattle.calendar.specs.declared.times.Time.{Time}
-use Rattle.calendar.proofs.Days.{answered, answers, unanswered}
+use Rattle.calendar.proofs.Days.{answered, answers}
 use Rattle.calendar.proofs.Clocks.{moments-and-times}
 use Rattle.calendar.proofs.times.time_of.Goals as goal
 
@@ -14,14 +14,6 @@ returns-then-not-is_moment c =
       time = sym (cond-false (is_moment c.args.m) _ _ (sym c.if-not-is_moment.ensures));
       inverse = moments-and-times;
     }
-
--- each moment's day has a date
-pub returns-in_err-date : goal.returns-in_err-date
-returns-in_err-date c =
-    let day = c.args.m / 86400 in
-    let m = leb-true c.args.m 254033452799 (sym c.if-not-is_moment.ensures) in
-    let l : day < 2940202 = omega arith in
-    absurd (both_ways (ltb day 2940202) (unanswered _ (date_on day) c.in_err-date.ensures.date) (lt-ltb _ _ l))
 
 pub returns : goal.returns
 unfolding time_of time_at

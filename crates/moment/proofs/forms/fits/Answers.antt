@@ -1,13 +1,10 @@
-use Rattle.std.proofs.Common.{◌+◌, ◌&&◌, drop, sym, refl, ap, ◌∙◌, arith}
+use Rattle.std.proofs.Common.{◌+◌, ◌&&◌, drop, sym, ap, ◌∙◌, arith}
 use Rattle.moment.specs.Forms.{fits}
 use Rattle.moment.proofs.Fitting.{longer-fits-not, fits_more, fits_all}
 use Rattle.moment.proofs.forms.fits.Goals as goal
 
 pub returns-then-text-form : goal.returns-then-text-form
 returns-then-text-form c = longer-fits-not c.args.form.now c.args.text.now (λ e. omega arith)
-
-pub loop-k-init : goal.loop-k-init
-loop-k-init c = refl
 
 pub returns-then-not-fills : goal.returns-then-not-fills
 returns-then-not-fills c =
