@@ -5,11 +5,11 @@ use Rattle.writable.proofs.Timed.{time-within}
 use Rattle.writable.proofs.Entered.{reason-within, entry-lengths}
 use Rattle.writable.proofs.entries.content_size.Goals as goal
 
-pub overflow-add-result : goal.overflow-add-result
-overflow-add-result c = omega (arith, time-within c.args.date, reason-within (mapped reason_number c.args.reason))
+pub overflow_add-result : goal.overflow_add-result
+overflow_add-result c = omega (arith, time-within c.args.date, reason-within (mapped reason_number c.args.reason))
 
-pub overflow-add-result-2 : goal.overflow-add-result-2
-overflow-add-result-2 c = omega (arith, time-within c.args.date, reason-within (mapped reason_number c.args.reason))
+pub overflow_add-result-2 : goal.overflow_add-result-2
+overflow_add-result-2 c = omega (arith, time-within c.args.date, reason-within (mapped reason_number c.args.reason))
 
 pub returns : goal.returns
 returns c =
