@@ -53,6 +53,7 @@ impl Algorithm {
     }
 
     // The algorithm with this AlgorithmIdentifier, if it is admitted.
+    #[tactic(auto, unfolding(crate::specs::Algorithms::algorithm_in))]
     pub fn from_octets(octets: &[u8]) -> Option<Algorithm>
         ensures { result ≡ algorithm_in octets.now }
     {
@@ -69,6 +70,7 @@ impl Algorithm {
 }
 
 // The algorithm in the signed block.
+#[tactic(auto, unfolding(crate::specs::Algorithms::algorithm_at))]
 pub fn read_algorithm(reader: &mut Reader) -> Result<Algorithm, Fault>
     ensures { told (λ a. a) result reader.new ≡ algorithm_at (left_of reader.old) }
 {
@@ -81,6 +83,7 @@ pub fn read_algorithm(reader: &mut Reader) -> Result<Algorithm, Fault>
 }
 
 // The algorithm behind the signed block, which must be the block's, octet for octet.
+#[tactic(auto, unfolding(crate::specs::Algorithms::again_at))]
 pub fn algorithm_again(reader: &mut Reader, algorithm: Algorithm) -> Result<(), Fault>
     ensures { told (λ u. u) result reader.new ≡ again_at algorithm (left_of reader.old) }
 {

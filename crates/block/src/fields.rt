@@ -42,6 +42,7 @@ pub struct Block<'a> {
 }
 
 // The version: INTEGER 1.
+#[tactic(auto, unfolding(crate::specs::Blocks::version_at))]
 fn version(reader: &mut Reader) -> Result<(), Fault>
     ensures { told (λ u. u) result reader.new ≡ version_at (left_of reader.old) }
 {
@@ -97,6 +98,7 @@ fn list_told<'a>(reader: &mut Reader<'a>) -> Result<ListTold<'a>, Fault>
 }
 
 // The item with tag A0 around the list's extensions.
+#[tactic(auto, unfolding(crate::specs::Blocks::context_at))]
 fn context<'a>(reader: &mut Reader<'a>) -> Result<ListTold<'a>, Fault>
     ensures { told list_told_of result reader.new ≡ context_at (left_of reader.old) }
 {
@@ -111,6 +113,7 @@ fn context<'a>(reader: &mut Reader<'a>) -> Result<ListTold<'a>, Fault>
 }
 
 // The content of the signed block.
+#[tactic(auto, unfolding(crate::specs::Blocks::block_at))]
 pub fn read_block<'a>(reader: &mut Reader<'a>) -> Result<Block<'a>, Fault>
     ensures { told held_of result reader.new ≡ block_at (left_of reader.old) }
 {

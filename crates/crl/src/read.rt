@@ -27,6 +27,7 @@ pub fn read_list(octets: &[u8]) -> Result<RevocationList, Refusal>
 }
 
 // The same, by its meaning alone.
+#[tactic(auto, unfolding(crate::specs::Law::read_of))]
 fn read_by_meaning(octets: &[u8]) -> Result<RevocationList, Refusal>
     ensures { answered listing_of result ≡ read_of octets.now }
 {
@@ -44,6 +45,7 @@ fn read_by_meaning(octets: &[u8]) -> Result<RevocationList, Refusal>
 }
 
 // Takes the first entry off a run of entries.
+#[tactic(auto, unfolding(crate::specs::Law::entry_in))]
 pub fn next_entry<'a>(run: &mut Part<'a>) -> Option<Entry<'a>>
     ensures entry { mapped line_of result ≡ first_in (entry_in (piece_of run.old)) }
     ensures rest { piece_of run.new ≡ rest_in (piece_of run.old) (entry_in (piece_of run.old)) }

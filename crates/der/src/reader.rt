@@ -3,7 +3,7 @@ ghost use Rattle.std.specs.Prelude.{◌≡◌, ℕ, ◌+◌, ◌-◌, ◌^◌, �
 ghost use Rattle.std.specs.Str.{bytes_eq};
 ghost use Rattle.der.specs.Reads.{left_of, told, seen};
 ghost use Rattle.items.specs.Parts.{piece_of};
-ghost use Rattle.refusals.specs.Refusals.{flaw_of};
+ghost use Rattle.refusals.specs.Refusals.{flaw_of, fault_at};
 ghost use Rattle.der.specs.Items.{item_at, expect_at, whole_at, raw_at, name_at, end_at, next_is, wholly_of};
 ghost use Rattle.items.specs.Things.{thing_of, item_number, number_of_tag};
 
@@ -29,7 +29,7 @@ pub(crate) fn front(octets: &[u8], left: usize, offset: usize) -> Part
 
 // The fault of an item that is missing, extra or not the one laid down.
 pub fn unexpected(offset: usize) -> Fault
-    ensures { result ≡ record { ground = Ground.Unexpected; offset = offset } }
+    ensures { result ≡ fault_at Ground.Unexpected offset }
 {
     Fault {
         ground: Ground::Unexpected,
@@ -39,6 +39,7 @@ pub fn unexpected(offset: usize) -> Fault
 
 impl<'a> Reader<'a> {
     // Reads the item in front and goes past it.
+    #[tactic(auto, unfolding(crate::specs::Items::item_at))]
     pub fn item(&mut self, laid: Laid) -> Result<Item<'a>, Fault>
         ensures read { told thing_of result self.new ≡ item_at (left_of self.old) }
         ensures stays { OnErr result (left_of self.new ≡ left_of self.old) }
@@ -81,6 +82,7 @@ impl<'a> Reader<'a> {
     }
 
     // Reads the item in front, which must have the tag, and gives its content.
+    #[tactic(auto, unfolding(crate::specs::Items::expect_at))]
     pub fn expect(&mut self, tag: u8) -> Result<Part<'a>, Fault>
         ensures read { told piece_of result self.new ≡ expect_at tag (left_of self.old) }
         ensures within { IfOk result (λ p. p.offset + length p.octets.now < 2 ^ 64) }
@@ -97,6 +99,7 @@ impl<'a> Reader<'a> {
 
 impl<'a> Reader<'a> {
     // Reads the item in front, which must have the tag, and gives it as it stands and by its content.
+    #[tactic(auto, unfolding(crate::specs::Items::whole_at))]
     pub fn whole(&mut self, tag: u8) -> Result<Whole<'a>, Fault>
         ensures read { told wholly_of result self.new ≡ whole_at tag (left_of self.old) }
         ensures within { IfOk result (λ w. w.content.offset + length w.content.octets.now < 2 ^ 64) }
@@ -112,6 +115,7 @@ impl<'a> Reader<'a> {
     }
 
     // Reads the item in front, whatever its tag, and gives it as it stands.
+    #[tactic(auto, unfolding(crate::specs::Items::raw_at))]
     pub fn raw(&mut self) -> Result<Part<'a>, Fault>
         ensures { told piece_of result self.new ≡ raw_at (left_of self.old) }
     {
@@ -122,6 +126,7 @@ impl<'a> Reader<'a> {
     }
 
     // Reads a name: a SEQUENCE with content, which is not opened.
+    #[tactic(auto, unfolding(crate::specs::Items::name_at, crate::specs::Items::whole_at, crate::specs::Items::expect_at))]
     pub fn name(&mut self) -> Result<Part<'a>, Fault>
         ensures read { told piece_of result self.new ≡ name_at (left_of self.old) }
         ensures long { OnOk result (length self.new.rest.now + 2 ≤ length self.old.rest.now) }
@@ -140,6 +145,7 @@ impl<'a> Reader<'a> {
     }
 
     // Nothing may be left: an item that is left is one too many, if it is an item at all.
+    #[tactic(auto, unfolding(crate::specs::Items::end_at))]
     pub fn end(&mut self) -> Result<(), Fault>
         ensures end { seen (λ u. u) result ≡ end_at (left_of self.old) }
         ensures still { OnOk result (left_of self.new ≡ left_of self.old) }

@@ -34,6 +34,7 @@ pub fn is_serial(octets: &[u8]) -> bool
 }
 
 // The serial of a certificate.
+#[tactic(auto, unfolding(crate::specs::Entries::serial_at))]
 fn serial<'a>(reader: &mut Reader<'a>) -> Result<Part<'a>, Fault>
     ensures { told piece_of result reader.new ≡ serial_at (left_of reader.old) }
 {
@@ -63,6 +64,7 @@ fn reason(reader: &mut Reader) -> Result<Option<Reason>, Fault>
 }
 
 // The content of an entry.
+#[tactic(auto, unfolding(crate::specs::Entries::entry_body_at))]
 fn entry_body<'a>(reader: &mut Reader<'a>) -> Result<Entry<'a>, Fault>
     ensures { told line_of result reader.new ≡ entry_body_at (left_of reader.old) }
 {
@@ -77,6 +79,7 @@ fn entry_body<'a>(reader: &mut Reader<'a>) -> Result<Entry<'a>, Fault>
 }
 
 // An entry.
+#[tactic(auto, unfolding(crate::specs::Entries::entry_at))]
 pub fn read_entry<'a>(reader: &mut Reader<'a>) -> Result<Entry<'a>, Fault>
     ensures read { told line_of result reader.new ≡ entry_at (left_of reader.old) }
     ensures long { OnOk result (length reader.new.rest.now + 2 ≤ length reader.old.rest.now) }

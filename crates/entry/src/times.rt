@@ -41,6 +41,7 @@ fn moment_or_fault(form: TimeForm, octets: &[u8], offset: usize) -> Result<u64, 
 }
 
 // An update, or the date of an entry.
+#[tactic(auto, unfolding(crate::specs::Times::time_at))]
 pub fn time(reader: &mut Reader) -> Result<u64, Fault>
     ensures { told (λ m. m) result reader.new ≡ time_at (left_of reader.old) }
 {

@@ -17,6 +17,7 @@ use telling::role::*;
 use telling::told::*;
 
 // Whether the extension is critical: its flag is 01 01 FF, or nothing.
+#[tactic(auto, unfolding(crate::specs::Extensions::flag_at))]
 fn flag(reader: &mut Reader) -> Result<bool, Fault>
     ensures { told (λ b. b) result reader.new ≡ flag_at (left_of reader.old) }
 {
@@ -39,6 +40,7 @@ fn is_other(role: Role) -> bool
 }
 
 // The content of the extension whose tag stands at `at`, where these were told before it.
+#[tactic(auto, unfolding(crate::specs::Extensions::body_at))]
 fn body<'a>(
     reader: &mut Reader<'a>,
     context: Context,
@@ -70,6 +72,7 @@ fn body<'a>(
 }
 
 // An extension, where these were told before it.
+#[tactic(auto, unfolding(crate::specs::Extensions::extension_at))]
 fn read_extension<'a>(
     reader: &mut Reader<'a>,
     context: Context,

@@ -34,6 +34,7 @@ fn is_number(octets: &[u8]) -> bool
 }
 
 // A list's number: an INTEGER from 0 with at most 20 octets.
+#[tactic(auto, unfolding(crate::specs::Values::number_at))]
 fn number<'a>(reader: &mut Reader<'a>) -> Result<Part<'a>, Fault>
     ensures { told piece_of result reader.new ≡ number_at (left_of reader.old) }
 {
@@ -46,6 +47,7 @@ fn number<'a>(reader: &mut Reader<'a>) -> Result<Part<'a>, Fault>
 }
 
 // expiredCertsOnCRL: a GeneralizedTime, before 2050 too.
+#[tactic(auto, unfolding(crate::specs::Values::expired_at))]
 fn expired(reader: &mut Reader) -> Result<u64, Fault>
     ensures { told (λ m. m) result reader.new ≡ expired_at (left_of reader.old) }
 {
@@ -61,6 +63,7 @@ fn expired(reader: &mut Reader) -> Result<u64, Fault>
 }
 
 // A reason: an ENUMERATED with a number that is admitted.
+#[tactic(auto, unfolding(crate::specs::Values::reason_at))]
 fn reason(reader: &mut Reader) -> Result<Reason, Fault>
     ensures { told reason_number result reader.new ≡ reason_at (left_of reader.old) }
 {

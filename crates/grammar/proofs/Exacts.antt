@@ -71,13 +71,13 @@ item-with s h g k =
     subst (λ v. Parsed IsItem s v) y (subst (λ xs. Parsed IsItem (record { rest = xs; offset = s.offset }) x) (sym k.octets) b))
     (λ n e. absurd (let z : ◌≡◌ {A = ℕ} 0 1 = cc in omega arith))
 
-item_by : (s : Left) (o : Option Head) (g : Got Thing) → head_of s.rest ≡ o → item_by s o ≡ Ok g → Parsed IsItem s g
-item_by s None g was e = absurd (let z : ◌≡◌ {A = ℕ} 0 1 = cc in omega arith)
-item_by s (Some h) g was e = item-with s h g (head-sound s.rest h was) e
+item_by-sound : (s : Left) (o : Option Head) (g : Got Thing) → head_of s.rest ≡ o → item_by s o ≡ Ok g → Parsed IsItem s g
+item_by-sound s None g was e = absurd (let z : ◌≡◌ {A = ℕ} 0 1 = cc in omega arith)
+item_by-sound s (Some h) g was e = item-with s h g (head-sound s.rest h was) e
 
 pub item-sound : (s : Left) (g : Got Thing) → item_at s ≡ Ok g → Parsed IsItem s g
 unfolding item_at
 item-sound s g =
     cond_both (eqb (length s.rest) 0) (Err (flaw 6 s.offset)) (item_by s (head_of s.rest)) (λ v. v ≡ Ok g → Parsed IsItem s g)
     (λ n e. absurd (let z : ◌≡◌ {A = ℕ} 0 1 = cc in omega arith))
-    (λ n e. item_by s (head_of s.rest) g refl e)
+    (λ n e. item_by-sound s (head_of s.rest) g refl e)

@@ -34,6 +34,7 @@ pub struct RevocationList<'a> {
 }
 
 // The signed block.
+#[tactic(auto, unfolding(crate::specs::Lists::signed_at))]
 fn signed_block<'a>(reader: &mut Reader<'a>) -> Result<SignedBlock<'a>, Fault>
     ensures { told block_as_of result reader.new ≡ signed_at (left_of reader.old) }
 {
@@ -58,6 +59,7 @@ fn is_signature(content: &[u8]) -> bool
 }
 
 // The signature.
+#[tactic(auto, unfolding(crate::specs::Lists::signature_at))]
 fn read_signature<'a>(reader: &mut Reader<'a>) -> Result<Signature<'a>, Fault>
     ensures { told signature_of result reader.new ≡ signature_at (left_of reader.old) }
 {
@@ -77,6 +79,7 @@ fn read_signature<'a>(reader: &mut Reader<'a>) -> Result<Signature<'a>, Fault>
 }
 
 // The content of the list: signed block, algorithm, signature.
+#[tactic(auto, unfolding(crate::specs::Lists::body_at))]
 fn list_body<'a>(reader: &mut Reader<'a>) -> Result<RevocationList<'a>, Fault>
     ensures { told listing_of result reader.new ≡ body_at (left_of reader.old) }
 {
@@ -87,6 +90,7 @@ fn list_body<'a>(reader: &mut Reader<'a>) -> Result<RevocationList<'a>, Fault>
 }
 
 // A list.
+#[tactic(auto, unfolding(crate::specs::Lists::list_at))]
 fn one_list<'a>(reader: &mut Reader<'a>) -> Result<RevocationList<'a>, Fault>
     ensures { told listing_of result reader.new ≡ list_at (left_of reader.old) }
 {
@@ -101,6 +105,7 @@ fn one_list<'a>(reader: &mut Reader<'a>) -> Result<RevocationList<'a>, Fault>
 }
 
 // The list that the octets are, up to their end.
+#[tactic(auto, unfolding(crate::specs::Lists::list_of))]
 pub fn whole_list(octets: &[u8]) -> Result<RevocationList, Fault>
     ensures { seen listing_of result ≡ list_of octets.now }
 {

@@ -40,6 +40,10 @@ pub record Flaw : Type 0 where
 abbrev pub flaw : ℕ → ℕ → Flaw
 flaw n p = record { number = n; offset = p }
 
+-- the fault of this ground at an offset
+abbrev pub fault_at : (ground : Ground) → ℕ → Fault
+fault_at g p = record { ground = g; offset = p }
+
 abbrev pub flaw_of : Fault → Flaw
 flaw_of f = flaw (ground_number f.ground) f.offset
 
@@ -54,3 +58,7 @@ refused n i p = record { number = n; input = i; offset = p }
 
 abbrev pub refused_of : Refusal → Refused
 refused_of r = refused (ground_number r.ground) (input_number r.input) r.offset
+
+-- a fault as the refusal of a call that was given the octets as this input
+abbrev pub refusal_in : Input → Fault → Refusal
+refusal_in i f = record { ground = f.ground; input = i; offset = f.offset }

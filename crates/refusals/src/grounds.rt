@@ -1,6 +1,6 @@
 // Refusals: why a call is refused, in which input, and where.
 ghost use Rattle.std.specs.Prelude.{◌≡◌};
-ghost use Rattle.refusals.specs.Refusals.{ground_number, input_number};
+ghost use Rattle.refusals.specs.Refusals.{ground_number, input_number, refusal_in};
 
 // Why a call is refused. Each ground has a number that is printed and never changes.
 #[derive(Clone, Copy)]
@@ -105,7 +105,7 @@ pub struct Fault {
 impl Fault {
     // The fault as the refusal of a call that was given the octets as this input.
     pub fn within(self, input: Input) -> Refusal
-        ensures { result ≡ record { ground = self.ground; input = input; offset = self.offset } }
+        ensures { result ≡ refusal_in input self }
     {
         Refusal {
             ground: self.ground,

@@ -9,24 +9,24 @@ use Rattle.entry.specs.Entries.{line_of, entry_step}
 use Rattle.block.specs.Blocks.{entries_at}
 use Rattle.block.proofs.fields.find_entries.Goals as goal
 
-pub returns-then-not-next-is : goal.returns-then-not-next-is
+pub returns-then-not-next-is : goal.returns-then-not-next_is
 unfolding entries_at
 returns-then-not-next-is c = search rules
 
-pub returns-in-err-content : goal.returns-in-err-content
+pub returns-in_err-content : goal.returns-in_err-content
 unfolding entries_at
-returns-in-err-content c = search rules
+returns-in_err-content c = search rules
 
-pub returns-in-err-count : goal.returns-in-err-count
+pub returns-in_err-count : goal.returns-in_err-count
 unfolding entries_at
-returns-in-err-count c =
-    let e : run_of entry_step tt (piece_of c.in-ok-content.content) ≡ Err (flaw_of c.in-err-count.field-0.0) = walk-err line_of plain_of entry_step _ _ _ _ _ _ _ c.in-err-count.ensures in
+returns-in_err-count c =
+    let e : run_of entry_step tt (piece_of c.in_ok-content.content) ≡ Err (flaw_of c.in_err-count.field-0.0) = walk-err line_of plain_of entry_step _ _ _ _ _ _ _ c.in_err-count.ensures in
     search rules
 
 pub returns : goal.returns
 unfolding entries_at
 returns c =
-    let w = walk-ok line_of plain_of entry_step _ _ _ _ _ _ _ c.in-ok-count.ensures in
-    let e : run_of entry_step tt (piece_of c.in-ok-content.content) ≡ Ok (record { one = map line_of w.0; two = tt }) = w.2 in
-    let n : c.in-ok-count.count ≡ length (map line_of w.0) = w.1 ∙ sym (length-map w.0 line_of) in
+    let w = walk-ok line_of plain_of entry_step _ _ _ _ _ _ _ c.in_ok-count.ensures in
+    let e : run_of entry_step tt (piece_of c.in_ok-content.content) ≡ Ok (record { one = map line_of w.0; two = tt }) = w.2 in
+    let n : c.in_ok-count.count ≡ length (map line_of w.0) = w.1 ∙ sym (length-map w.0 line_of) in
     search rules

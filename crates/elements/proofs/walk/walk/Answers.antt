@@ -6,16 +6,16 @@ use Rattle.elements.proofs.walk.walk.Goals as goal
 pub loop-element-init : goal.loop-element-init
 loop-element-init g c = (omega arith, onward-none g.E.Readable.means _ _ _)
 
-pub returns-in-err-element : goal.returns-in-err-element
-returns-in-err-element g c =
-    let p = err_from_is_err_and c.from-residual.result c.from-residual.ensures.1 in
-    rw (p.1, p.2) (onward-stop g.E.Readable.means _ _ _ _ _ _ _ c.loop-element.invariant.1 _ _ _ c.read.ensures.read _ c.in-err-element.was)
+pub returns-in_err-element : goal.returns-in_err-element
+returns-in_err-element g c =
+    let p = err_from_is_err_and c.from_residual.result c.from_residual.ensures.1 in
+    rw (p.1, p.2) (onward-stop g.E.Readable.means _ _ _ _ _ _ _ c.loop-element.invariant.1 _ _ _ c.read.ensures.read _ c.in_err-element.was)
 
 pub returns-then-reader-eq0 : goal.returns-then-reader-eq0
 returns-then-reader-eq0 g c =
-    rw c.keep.ensures (onward-last g.E.Readable.means _ _ _ _ _ _ _ c.loop-element.invariant.1 _ _ _ c.read.ensures.read _ c.in-ok-element.was c.if-reader-eq0.true)
+    rw c.keep.ensures (onward-last g.E.Readable.means _ _ _ _ _ _ _ c.loop-element.invariant.1 _ _ _ c.read.ensures.read _ c.in_ok-element.was c.if-reader-eq0.true)
 
 pub loop-element-preserved : goal.loop-element-preserved
 loop-element-preserved g c =
-    let h = c.in-ok-element.ensures.long in
-    (omega arith, rw c.keep.ensures (onward-more g.E.Readable.means _ _ _ _ _ _ _ c.loop-element.invariant.1 _ _ _ c.read.ensures.read _ c.in-ok-element.was h (omega arith)))
+    let h = c.in_ok-element.ensures.long in
+    (omega arith, rw c.keep.ensures (onward-more g.E.Readable.means _ _ _ _ _ _ _ c.loop-element.invariant.1 _ _ _ c.read.ensures.read _ c.in_ok-element.was h (omega arith)))

@@ -6,6 +6,6 @@ use Rattle.encode.proofs.put.item_size.Goals as goal
 pub returns : goal.returns
 returns c =
     record {
-      whole = λ tag xs e. omega (arith, c.head-size.ensures, length-der tag xs, ap (λ n. length (length_octets n)) e);
+      whole = λ tag xs e. omega (arith, c.head_size.ensures, length-der tag xs, ap (λ n. length (length_octets n)) e);
       bound = search rules;
     }

@@ -10,7 +10,7 @@ returns c =
     let from = c.args.from.now in
     let at = c.args.at in
     record {
-      memory = ap (λ (ys : List ℕ). take at s ++ (ys ++ drop (at + length from - at) (drop at s))) c.copy-from-slice.ensures.after
+      memory = ap (λ (ys : List ℕ). take at s ++ (ys ++ drop (at + length from - at) (drop at s))) c.copy_from_slice.ensures.after
           ∙ ap (λ (t : List ℕ). take at s ++ (from ++ t))
           (drop-drop (at + length from - at) at s ∙ ap (λ (n : ℕ). drop n s) (let e : at + (at + length from - at) ≡ at + length from = omega arith in e));
       end_is = refl;

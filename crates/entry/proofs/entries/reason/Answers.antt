@@ -13,21 +13,21 @@ pub returns-then-reader-eq0 : goal.returns-then-reader-eq0
 unfolding reasons_at
 returns-then-reader-eq0 c = search rules
 
-pub returns-in-err-content : goal.returns-in-err-content
+pub returns-in_err-content : goal.returns-in_err-content
 unfolding reasons_at
-returns-in-err-content c = search rules
+returns-in_err-content c = search rules
 
-pub returns-in-err--count : goal.returns-in-err--count
+pub returns-in_err--count : goal.returns-in_err--count
 unfolding reasons_at
-returns-in-err--count c =
-    let e : run_of (extension_step InEntry) silent (piece_of c.in-ok-content.content) ≡ Err (flaw_of c.in-err--count.field-0.0) =
-    ap (λ a. run_of (extension_step InEntry) a (piece_of c.in-ok-content.content)) (sym c.untold.ensures) ∙ walk-err extension_of entry_tells (extension_step InEntry) _ _ _ _ _ _ _ c.in-err--count.ensures in
+returns-in_err--count c =
+    let e : run_of (extension_step InEntry) silent (piece_of c.in_ok-content.content) ≡ Err (flaw_of c.in_err--count.field-0.0) =
+    ap (λ a. run_of (extension_step InEntry) a (piece_of c.in_ok-content.content)) (sym c.untold.ensures) ∙ walk-err extension_of entry_tells (extension_step InEntry) _ _ _ _ _ _ _ c.in_err--count.ensures in
     search rules
 
 pub returns : goal.returns
 unfolding reasons_at
 returns c =
-    let w = walk-ok extension_of entry_tells (extension_step InEntry) _ _ _ _ _ _ _ c.in-ok--count.ensures in
-    let e : run_of (extension_step InEntry) silent (piece_of c.in-ok-content.content) ≡ Ok (record { one = map extension_of w.0; two = entry_tells c.walk.new.state }) =
-    ap (λ a. run_of (extension_step InEntry) a (piece_of c.in-ok-content.content)) (sym c.untold.ensures) ∙ w.2 in
+    let w = walk-ok extension_of entry_tells (extension_step InEntry) _ _ _ _ _ _ _ c.in_ok--count.ensures in
+    let e : run_of (extension_step InEntry) silent (piece_of c.in_ok-content.content) ≡ Ok (record { one = map extension_of w.0; two = entry_tells c.walk.new.state }) =
+    ap (λ a. run_of (extension_step InEntry) a (piece_of c.in_ok-content.content)) (sym c.untold.ensures) ∙ w.2 in
     search rules

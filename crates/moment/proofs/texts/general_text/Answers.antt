@@ -9,7 +9,7 @@ pub returns-in-err-time-of : goal.returns-in-err-time-of
 unfolding general_text
 returns-in-err-time-of c =
     record {
-      text = c.from-residual.ensures ∙ written_none general_form 0 c.args.m c.in-err-time-of.ensures.time;
+      text = c.from_residual.ensures ∙ written_none general_form 0 c.args.m c.in-err-time-of.ensures.time;
       order = general-ordered;
     }
 

@@ -9,7 +9,7 @@ pub returns-in-err-time-of : goal.returns-in-err-time-of
 unfolding rfc3339_text
 returns-in-err-time-of c =
     record {
-      text = c.from-residual.ensures ∙ written_none rfc3339_form 0 c.args.m c.in-err-time-of.ensures.time;
+      text = c.from_residual.ensures ∙ written_none rfc3339_form 0 c.args.m c.in-err-time-of.ensures.time;
       order = rfc3339-ordered;
     }
 

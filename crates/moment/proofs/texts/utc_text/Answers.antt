@@ -13,7 +13,7 @@ returns-then-m-ge-FIRST-OF-2050 c =
 pub returns-in-err-time-of : goal.returns-in-err-time-of
 unfolding utc_text
 returns-in-err-time-of c =
-    c.from-residual.ensures ∙ written_none utc_form 2 c.args.m c.in-err-time-of.ensures.time
+    c.from_residual.ensures ∙ written_none utc_form 2 c.args.m c.in-err-time-of.ensures.time
     ∙ sym (cond-true (ltb c.args.m 3155760000) _ _ (lt-ltb _ _ c.if-m-ge-FIRST-OF-2050.false))
 
 pub digits-requires : goal.digits-requires

@@ -12,7 +12,7 @@ loop-command-preserved c =
     let xs = c.args.commands.now in
     let i = c.loop-command.command-index in
     let x = c.command-item.result in
-    let s = c.in-ok-say.ensures in
+    let s = c.in_ok-say.ensures in
     let m : take (i + 1) xs ≡ take i xs ++ (x ∷ []) = take_more xs i x c.loop-command-test.true ∙ ap (λ y. take i xs ++ (y ∷ [])) (sym c.command-item.is) in
     s ∙ ap (λ z. z ++ command-text x) c.loop-command.invariant ∙ ap (λ z. all-text (take i xs) ++ z) (sym (all_one x)) ∙ sym (all_append (take i xs) (x ∷ [])) ∙ ap all-text (sym m)
 

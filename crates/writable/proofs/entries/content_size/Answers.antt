@@ -16,6 +16,6 @@ returns c =
     let t = time-within c.args.date in
     let r = reason-within (mapped reason_number c.args.reason) in
     record {
-      whole = λ xs o e. let l = entry-lengths (record { serial = record { octets = xs; offset = o }; date = c.args.date; reason = mapped reason_number c.args.reason }) in let a = c.item-size.ensures.whole 2 xs e in omega arith;
+      whole = λ xs o e. let l = entry-lengths (record { serial = record { octets = xs; offset = o }; date = c.args.date; reason = mapped reason_number c.args.reason }) in let a = c.item_size.ensures.whole 2 xs e in omega arith;
       bound = (omega arith, omega arith);
     }

@@ -8,16 +8,16 @@ use Rattle.writable.specs.Entries.{reason_octets}
 use Rattle.writable.proofs.Entered.{reason-length, reason-inner}
 use Rattle.writable.proofs.entries.put_reason.Goals as goal
 
-pub put-head-start-requires : goal.put-head-start-requires
+pub put-head-start-requires : goal.put_head-start-requires
 put-head-start-requires c =
     let l = ap (λ o. length (reason_octets (mapped reason_number o))) c.in-Some.is ∙ reason-length (reason_number c.in-Some.found) in
     record { room = omega arith; short = omega arith }
 
-pub put-extension-requires : goal.put-extension-requires
+pub put-extension-requires : goal.put_extension-requires
 put-extension-requires c =
     let l = ap (λ o. length (reason_octets (mapped reason_number o))) c.in-Some.is ∙ reason-length (reason_number c.in-Some.found) in
     let i = reason-inner c.number.result in
-    record { room = omega (arith, c.put-head-start.ensures.end_is, c.put-head-start.auto.out); short = omega arith }
+    record { room = omega (arith, c.put_head-start.ensures.end_is, c.put_head-start.auto.out); short = omega arith }
 
 pub returns-in-None : goal.returns-in-None
 returns-in-None c = moved (sym (ap (λ o. reason_octets (mapped reason_number o)) c.in-None.is)) (none _ _)
@@ -25,4 +25,4 @@ returns-in-None c = moved (sym (ap (λ o. reason_octets (mapped reason_number o)
 pub returns-in-Some : goal.returns-in-Some
 returns-in-Some c =
     moved (ap (λ n. reason_octets (Some n)) c.number.ensures ∙ sym (ap (λ o. reason_octets (mapped reason_number o)) c.in-Some.is))
-    (item (sym (reason-inner c.number.result)) c.put-head-start.ensures c.put-extension.ensures)
+    (item (sym (reason-inner c.number.result)) c.put_head-start.ensures c.put_extension.ensures)

@@ -15,7 +15,7 @@ returns-then-size-gt-MOST-OCTETS c =
     let xs = c.args.identifier.now in
     let ys = c.args.content.now in
     let b = c.args.critical in
-    let s = c.item-size-size.ensures.whole 48 (extension_content xs b ys) (c.content-size.ensures.whole xs ys refl refl) in
+    let s = c.item_size-size.ensures.whole 48 (extension_content xs b ys) (c.content_size.ensures.whole xs ys refl refl) in
     let e = length-extension xs b ys in
     let k : 65535 < length (extension_octets xs b ys) = omega arith in
     sized-not _ k
@@ -25,5 +25,5 @@ returns-else-size-gt-MOST-OCTETS c =
     let xs = c.args.identifier.now in
     let ys = c.args.content.now in
     let b = c.args.critical in
-    let s = c.item-size-size.ensures.whole 48 (extension_content xs b ys) (c.content-size.ensures.whole xs ys refl refl) in
+    let s = c.item_size-size.ensures.whole 48 (extension_content xs b ys) (c.content_size.ensures.whole xs ys refl refl) in
     sized-is _ _ (s ∙ sym (length-extension xs b ys)) c.if-size-gt-MOST-OCTETS.false

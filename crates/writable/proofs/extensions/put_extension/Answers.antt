@@ -5,44 +5,44 @@ use Rattle.writable.specs.Extensions.{extension_content, extension_octets, flag_
 use Rattle.writable.proofs.Lengths.{lengths}
 use Rattle.writable.proofs.extensions.put_extension.Goals as goal
 
-pub content-size-requires : goal.content-size-requires
+pub content-size-requires : goal.content_size-requires
 content-size-requires c = let l = lengths c.args.identifier.now c.args.critical c.args.content.now in (omega arith, omega arith)
 
-pub put-head-start-requires : goal.put-head-start-requires
+pub put-head-start-requires : goal.put_head-start-requires
 put-head-start-requires c =
     let l = lengths c.args.identifier.now c.args.critical c.args.content.now in
-    let e = c.content-size.ensures.whole c.args.identifier.now c.args.content.now refl refl in
+    let e = c.content_size.ensures.whole c.args.identifier.now c.args.content.now refl refl in
     let h = ap (λ n. length (length_octets n)) e in
     record { room = omega arith; short = omega arith }
 
-pub put-item-flag-requires : goal.put-item-flag-requires
+pub put-item-flag-requires : goal.put_item-flag-requires
 put-item-flag-requires c =
     let l = lengths c.args.identifier.now c.args.critical c.args.content.now in
-    let e = c.content-size.ensures.whole c.args.identifier.now c.args.content.now refl refl in
+    let e = c.content_size.ensures.whole c.args.identifier.now c.args.content.now refl refl in
     let h = ap (λ n. length (length_octets n)) e in
-    record { room = omega (arith, c.put-head-start.ensures.end_is, c.put-head-start.auto.out); short = omega arith }
+    record { room = omega (arith, c.put_head-start.ensures.end_is, c.put_head-start.auto.out); short = omega arith }
 
 pub put-value-requires : goal.put-value-requires
 put-value-requires c =
     let l = lengths c.args.identifier.now c.args.critical c.args.content.now in
-    let e = c.content-size.ensures.whole c.args.identifier.now c.args.content.now refl refl in
+    let e = c.content_size.ensures.whole c.args.identifier.now c.args.content.now refl refl in
     let h = ap (λ n. length (length_octets n)) e in
-    let f = ap length c.flag-octets.ensures in
-    omega (arith, c.put-head-start.ensures.end_is, c.put-head-start.auto.out, c.put-item-flag.ensures.put.end_is, c.put-item-flag.auto.out)
+    let f = ap length c.flag_octets.ensures in
+    omega (arith, c.put_head-start.ensures.end_is, c.put_head-start.auto.out, c.put_item-flag.ensures.put.end_is, c.put_item-flag.auto.out)
 
-pub put-item-requires : goal.put-item-requires
+pub put-item-requires : goal.put_item-requires
 put-item-requires c =
     let l = lengths c.args.identifier.now c.args.critical c.args.content.now in
-    let e = c.content-size.ensures.whole c.args.identifier.now c.args.content.now refl refl in
+    let e = c.content_size.ensures.whole c.args.identifier.now c.args.content.now refl refl in
     let h = ap (λ n. length (length_octets n)) e in
-    let f = ap length c.flag-octets.ensures in
+    let f = ap length c.flag_octets.ensures in
     record {
-      room = omega (arith, c.put-head-start.ensures.end_is, c.put-head-start.auto.out, c.put-item-flag.ensures.put.end_is, c.put-item-flag.auto.out, c.put-value.ensures.end_is, c.put-value.auto.out);
+      room = omega (arith, c.put_head-start.ensures.end_is, c.put_head-start.auto.out, c.put_item-flag.ensures.put.end_is, c.put_item-flag.auto.out, c.put-value.ensures.end_is, c.put-value.auto.out);
       short = omega arith;
     }
 
 pub returns : goal.returns
 unfolding extension_octets extension_content
 returns c =
-    let e = c.content-size.ensures.whole c.args.identifier.now c.args.content.now refl refl in
-    item e c.put-head-start.ensures (then c.put-item-flag.ensures.put (then (moved c.flag-octets.ensures c.put-value.ensures) c.put-item.ensures.put))
+    let e = c.content_size.ensures.whole c.args.identifier.now c.args.content.now refl refl in
+    item e c.put_head-start.ensures (then c.put_item-flag.ensures.put (then (moved c.flag_octets.ensures c.put-value.ensures) c.put_item.ensures.put))

@@ -15,8 +15,8 @@ loop-b-preserved g c =
     λ plain.
     let xs = c.args.self.now.0.now in
     let before = c.loop-b.invariant plain in
-    let high = c.in-ok-write-char.ensures.writes before.plain refl in
-    let low = c.in-ok-write-char-2.ensures.writes high.plain refl in
+    let high = c.in_ok-write_char.ensures.writes before.plain refl in
+    let low = c.in_ok-write_char-2.ensures.writes high.plain refl in
     let both = has_written_append g.W.Write.write_str_gives _ _ _ _ _ (has_written_append g.W.Write.write_str_gives _ _ _ _ _ before high) low in
     has_written_of_eq g.W.Write.write_str_gives _ _ _ _ (hexed-more xs c.loop-b.b-index _ _ c.loop-b-test.true (omega arith) c.digit.ensures c.digit-in-loop-b.ensures) both
 

@@ -6,47 +6,47 @@ use Rattle.writable.specs.Entries.{entry_content, entry_octets}
 use Rattle.writable.proofs.Entered.{entry-lengths, entry-reads}
 use Rattle.writable.proofs.entries.EntryWritablePlain.put.Goals as goal
 
-pub content-size-content-requires : goal.content-size-content-requires
+pub content-size-content-requires : goal.content_size-content-requires
 content-size-content-requires c = let l = entry-lengths (line_of c.args.self.now) in omega arith
 
-pub put-head-start-requires : goal.put-head-start-requires
+pub put-head-start-requires : goal.put_head-start-requires
 put-head-start-requires c =
     let s = (line_of c.args.self.now).serial in
     let l = entry-lengths (line_of c.args.self.now) in
-    let e = c.content-size-content.ensures.whole s.octets s.offset refl in
+    let e = c.content_size-content.ensures.whole s.octets s.offset refl in
     let h = ap (λ n. length (length_octets n)) e in
     record { room = omega arith; short = omega arith }
 
-pub put-item-date-requires : goal.put-item-date-requires
+pub put-item-date-requires : goal.put_item-date-requires
 put-item-date-requires c =
     let s = (line_of c.args.self.now).serial in
     let l = entry-lengths (line_of c.args.self.now) in
-    let e = c.content-size-content.ensures.whole s.octets s.offset refl in
+    let e = c.content_size-content.ensures.whole s.octets s.offset refl in
     let h = ap (λ n. length (length_octets n)) e in
-    record { room = omega (arith, c.put-head-start.ensures.end_is, c.put-head-start.auto.out); short = omega arith }
+    record { room = omega (arith, c.put_head-start.ensures.end_is, c.put_head-start.auto.out); short = omega arith }
 
-pub put-time-reason-requires : goal.put-time-reason-requires
+pub put-time-reason-requires : goal.put_time-reason-requires
 put-time-reason-requires c =
     let s = (line_of c.args.self.now).serial in
     let l = entry-lengths (line_of c.args.self.now) in
-    let e = c.content-size-content.ensures.whole s.octets s.offset refl in
+    let e = c.content_size-content.ensures.whole s.octets s.offset refl in
     let h = ap (λ n. length (length_octets n)) e in
-    omega (arith, c.put-head-start.ensures.end_is, c.put-head-start.auto.out, c.put-item-date.ensures.put.end_is, c.put-item-date.auto.out)
+    omega (arith, c.put_head-start.ensures.end_is, c.put_head-start.auto.out, c.put_item-date.ensures.put.end_is, c.put_item-date.auto.out)
 
-pub put-reason-requires : goal.put-reason-requires
+pub put-reason-requires : goal.put_reason-requires
 put-reason-requires c =
     let s = (line_of c.args.self.now).serial in
     let l = entry-lengths (line_of c.args.self.now) in
-    let e = c.content-size-content.ensures.whole s.octets s.offset refl in
+    let e = c.content_size-content.ensures.whole s.octets s.offset refl in
     let h = ap (λ n. length (length_octets n)) e in
-    omega (arith, c.put-head-start.ensures.end_is, c.put-head-start.auto.out, c.put-item-date.ensures.put.end_is, c.put-item-date.auto.out, c.put-time-reason.ensures.end_is, c.put-time-reason.auto.out)
+    omega (arith, c.put_head-start.ensures.end_is, c.put_head-start.auto.out, c.put_item-date.ensures.put.end_is, c.put_item-date.auto.out, c.put_time-reason.ensures.end_is, c.put_time-reason.auto.out)
 
 pub returns : goal.returns
 unfolding entry_octets entry_content
 returns c =
     let s = (line_of c.args.self.now).serial in
-    let e = c.content-size-content.ensures.whole s.octets s.offset refl in
+    let e = c.content_size-content.ensures.whole s.octets s.offset refl in
     record {
-      put = item e c.put-head-start.ensures (then c.put-item-date.ensures.put (then c.put-time-reason.ensures c.put-reason.ensures));
+      put = item e c.put_head-start.ensures (then c.put_item-date.ensures.put (then c.put_time-reason.ensures c.put_reason.ensures));
       back = entry-reads c.args.self.now c.requires.short;
     }

@@ -14,7 +14,7 @@ returns-then-serial-gt-MOST-OCTETS c =
 pub returns-then-size-gt-MOST-OCTETS : goal.returns-then-size-gt-MOST-OCTETS
 returns-then-size-gt-MOST-OCTETS c =
     let e = line_of c.args.self.now in
-    let s = c.item-size-size.ensures.whole 48 (entry_content e) (c.content-size.ensures.whole e.serial.octets e.serial.offset refl) in
+    let s = c.item_size-size.ensures.whole 48 (entry_content e) (c.content_size.ensures.whole e.serial.octets e.serial.offset refl) in
     let d = entry_length e in
     let k : 65535 < length (entry_octets e) = omega arith in
     sized-not _ k
@@ -22,5 +22,5 @@ returns-then-size-gt-MOST-OCTETS c =
 pub returns-else-size-gt-MOST-OCTETS : goal.returns-else-size-gt-MOST-OCTETS
 returns-else-size-gt-MOST-OCTETS c =
     let e = line_of c.args.self.now in
-    let s = c.item-size-size.ensures.whole 48 (entry_content e) (c.content-size.ensures.whole e.serial.octets e.serial.offset refl) in
+    let s = c.item_size-size.ensures.whole 48 (entry_content e) (c.content_size.ensures.whole e.serial.octets e.serial.offset refl) in
     sized-is _ _ (s ∙ sym (entry_length e)) c.if-size-gt-MOST-OCTETS.false

@@ -4,4 +4,4 @@ use Rattle.writable.proofs.Built.{extension-reads}
 use Rattle.writable.proofs.extensions.ExtensionWritableInEntry.put.Goals as goal
 
 pub returns : goal.returns
-returns c = record { put = c.put-extension.ensures; back = extension-reads InEntry entry_tells (extension_of c.args.self.now) c.requires.short }
+returns c = record { put = c.put_extension.ensures; back = extension-reads InEntry entry_tells (extension_of c.args.self.now) c.requires.short }
