@@ -8,20 +8,20 @@ use Rattle.calendar.proofs.date_of.Goals as goal
 
 pub loop-rest-init : goal.loop-rest-init
 loop-rest-init c =
-    let y = c.year-of-year.result in
+    let y = c.year_of-year.result in
     let k = y - 1950 in
     let i : k + 1 ≡ suc k = omega arith in
-    let j : 1950 + k ≡ y = omega (arith, c.year-of-year.ensures) in
+    let j : 1950 + k ≡ y = omega (arith, c.year_of-year.ensures) in
     let n = days_to-next k in (
       omega arith,
       omega arith,
-      omega (arith, no-months y, c.year-start.ensures),
-      omega (arith, n, ap days_to i, ap year_days j, c.year-of-year.ensures),
+      omega (arith, no-months y, c.year_start.ensures),
+      omega (arith, n, ap days_to i, ap year_days j, c.year_of-year.ensures),
     )
 
 pub loop-rest-preserved : goal.loop-rest-preserved
 loop-rest-preserved c =
-    let y = c.year-of-year.result in
+    let y = c.year_of-year.result in
     let m = c.loop-rest.month in
     let i : m + 1 ≡ suc m = omega arith in
     let n = month-next y m in
@@ -33,8 +33,8 @@ loop-rest-preserved c =
 pub returns : goal.returns
 returns c =
     let r : Date =
-    record { year = c.year-of-year.result; month = c.loop-rest.month; day = c.loop-rest.rest + 1 } in
-    let y = c.year-of-year.ensures in
+    record { year = c.year_of-year.result; month = c.loop-rest.month; day = c.loop-rest.rest + 1 } in
+    let y = c.year_of-year.ensures in
     let v = c.loop-rest.invariant in
     let valid : Valid r =
     record {
@@ -53,5 +53,5 @@ returns c =
       inverse = days-and-dates;
     }
 
-pub returns-then-day-ge-ALL-DAYS : goal.returns-then-day-ge-ALL-DAYS
-returns-then-day-ge-ALL-DAYS c = record { date = search rules; inverse = days-and-dates }
+pub returns-then-day-ge-ALL_DAYS : goal.returns-then-day-ge-ALL_DAYS
+returns-then-day-ge-ALL_DAYS c = record { date = search rules; inverse = days-and-dates }

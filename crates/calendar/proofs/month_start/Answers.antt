@@ -1,4 +1,4 @@
-use Rattle.std.proofs.Common.{◌≡◌, suc, ◌+◌, ◌-◌, sym, ap, ◌∙◌, arith}
+use Rattle.std.proofs.Common.{◌≡◌, suc, ◌+◌, sym, ap, ◌∙◌, arith}
 use Rattle.calendar.specs.Dates.{month_start}
 use Rattle.calendar.proofs.Years.{month-next, no-months, month-short}
 use Rattle.calendar.proofs.month_start.Goals as goal
@@ -11,8 +11,8 @@ loop-m-preserved c =
     let m = c.loop-m.m in
     let i : m + 1 ≡ suc m = omega arith in
     let v = c.loop-m.invariant in (
-      omega (arith, ap (month_start c.args.year) i, month-next c.args.year m, c.days-in.ensures),
-      omega (arith, month-short c.args.year m, c.days-in.ensures),
+      omega (arith, ap (month_start c.args.year) i, month-next c.args.year m, c.days_in.ensures),
+      omega (arith, month-short c.args.year m, c.days_in.ensures),
     )
 
 pub returns : goal.returns

@@ -5,24 +5,24 @@ use Rattle.moment.proofs.Orders.{general-ordered}
 use Rattle.moment.proofs.Writing.{written_is, written_none, four-digit-year}
 use Rattle.moment.proofs.texts.general_text.Goals as goal
 
-pub returns-in-err-time-of : goal.returns-in-err-time-of
+pub returns-in_err-time_of : goal.returns-in_err-time_of
 unfolding general_text
-returns-in-err-time-of c =
+returns-in_err-time_of c =
     record {
-      text = c.from_residual.ensures ∙ written_none general_form 0 c.args.m c.in-err-time-of.ensures.time;
+      text = c.from_residual.ensures ∙ written_none general_form 0 c.args.m c.in_err-time_of.ensures.time;
       order = general-ordered;
     }
 
 pub digits-requires : goal.digits-requires
 digits-requires c =
-    four-digit-year c.args.m c.in-ok-time-of.field-0 c.in-ok-time-of.ensures.time
+    four-digit-year c.args.m c.in_ok-time_of.field-0 c.in_ok-time_of.ensures.time
 
 pub returns : goal.returns
 unfolding general_text lay
 returns c =
     record {
       text =
-          written_is general_form 0 c.args.m c.in-ok-time-of.field-0 c.digits.result
-          c.digits.ensures c.in-ok-time-of.ensures.time;
+          written_is general_form 0 c.args.m c.in_ok-time_of.field-0 c.digits.result
+          c.digits.ensures c.in_ok-time_of.ensures.time;
       order = general-ordered;
     }

@@ -20,8 +20,8 @@ year-requires c =
     let two = two_at general_form c.args.text.now c.if-not-fits.ensures in
     (two 0 refl refl, two 2 refl refl)
 
-pub time-in-requires : goal.time-in-requires
-time-in-requires c =
+pub time_in-requires : goal.time_in-requires
+time_in-requires c =
     let two = two_at general_form c.args.text.now c.if-not-fits.ensures in
     record {
       date = (two 4 refl refl, two 6 refl refl);
@@ -36,8 +36,8 @@ returns c =
     let xs = c.args.text.now in
     record {
       read =
-          read_some general_form c.time-in.result (general_time xs) xs c.moment-of.result c.if-not-fits.ensures
-          (c.time-in.ensures ∙ ap (λ y. time_in xs y 4 2) c.year.ensures) c.moment-of.ensures;
+          read_some general_form c.time_in.result (general_time xs) xs c.moment_of.result c.if-not-fits.ensures
+          (c.time_in.ensures ∙ ap (λ y. time_in xs y 4 2) c.year.ensures) c.moment_of.ensures;
       inverse = general-inverse;
       times = general-existing;
     }

@@ -20,8 +20,8 @@ year-requires c =
     let two = two_at rfc3339_form c.args.text.now c.if-not-fits.ensures in
     (two 0 refl refl, two 2 refl refl)
 
-pub time-in-requires : goal.time-in-requires
-time-in-requires c =
+pub time_in-requires : goal.time_in-requires
+time_in-requires c =
     let two = two_at rfc3339_form c.args.text.now c.if-not-fits.ensures in
     record {
       date = (two 5 refl refl, two 8 refl refl);
@@ -36,8 +36,8 @@ returns c =
     let xs = c.args.text.now in
     record {
       read =
-          read_some rfc3339_form c.time-in.result (rfc3339_time xs) xs c.moment-of.result c.if-not-fits.ensures
-          (c.time-in.ensures ∙ ap (λ y. time_in xs y 5 3) c.year.ensures) c.moment-of.ensures;
+          read_some rfc3339_form c.time_in.result (rfc3339_time xs) xs c.moment_of.result c.if-not-fits.ensures
+          (c.time_in.ensures ∙ ap (λ y. time_in xs y 5 3) c.year.ensures) c.moment_of.ensures;
       inverse = rfc3339-inverse;
       times = rfc3339-existing;
     }

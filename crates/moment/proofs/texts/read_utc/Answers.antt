@@ -20,8 +20,8 @@ pair-requires c =
     let two = two_at utc_form c.args.text.now c.if-not-fits.ensures in
     two 0 refl refl
 
-pub time-in-requires : goal.time-in-requires
-time-in-requires c =
+pub time_in-requires : goal.time_in-requires
+time_in-requires c =
     let two = two_at utc_form c.args.text.now c.if-not-fits.ensures in
     record {
       date = (two 2 refl refl, two 4 refl refl);
@@ -36,9 +36,9 @@ returns c =
     let xs = c.args.text.now in
     record {
       read =
-          read_some utc_form c.time-in.result (utc_time xs) xs c.moment-of.result c.if-not-fits.ensures
-          (c.time-in.ensures ∙ ap (λ y. time_in xs y 2 2) (c.full-year.ensures ∙ ap full_year c.pair.ensures.0))
-          c.moment-of.ensures;
+          read_some utc_form c.time_in.result (utc_time xs) xs c.moment_of.result c.if-not-fits.ensures
+          (c.time_in.ensures ∙ ap (λ y. time_in xs y 2 2) (c.full_year.ensures ∙ ap full_year c.pair.ensures.0))
+          c.moment_of.ensures;
       inverse = utc-inverse;
       times = utc-existing;
     }

@@ -5,24 +5,24 @@ use Rattle.moment.proofs.Orders.{rfc3339-ordered}
 use Rattle.moment.proofs.Writing.{written_is, written_none, four-digit-year}
 use Rattle.moment.proofs.texts.rfc3339_text.Goals as goal
 
-pub returns-in-err-time-of : goal.returns-in-err-time-of
+pub returns-in_err-time_of : goal.returns-in_err-time_of
 unfolding rfc3339_text
-returns-in-err-time-of c =
+returns-in_err-time_of c =
     record {
-      text = c.from_residual.ensures ∙ written_none rfc3339_form 0 c.args.m c.in-err-time-of.ensures.time;
+      text = c.from_residual.ensures ∙ written_none rfc3339_form 0 c.args.m c.in_err-time_of.ensures.time;
       order = rfc3339-ordered;
     }
 
 pub digits-requires : goal.digits-requires
 digits-requires c =
-    four-digit-year c.args.m c.in-ok-time-of.field-0 c.in-ok-time-of.ensures.time
+    four-digit-year c.args.m c.in_ok-time_of.field-0 c.in_ok-time_of.ensures.time
 
 pub returns : goal.returns
 unfolding rfc3339_text lay
 returns c =
     record {
       text =
-          written_is rfc3339_form 0 c.args.m c.in-ok-time-of.field-0 c.digits.result
-          c.digits.ensures c.in-ok-time-of.ensures.time;
+          written_is rfc3339_form 0 c.args.m c.in_ok-time_of.field-0 c.digits.result
+          c.digits.ensures c.in_ok-time_of.ensures.time;
       order = rfc3339-ordered;
     }
