@@ -9,9 +9,9 @@ use Rattle.entry.specs.Entries.{line_of, entry_step}
 use Rattle.block.specs.Blocks.{entries_at}
 use Rattle.block.proofs.fields.find_entries.Goals as goal
 
-pub returns-then-not-next-is : goal.returns-then-not-next_is
+pub returns-then-not-next_is : goal.returns-then-not-next_is
 unfolding entries_at
-returns-then-not-next-is c = search rules
+returns-then-not-next_is c = search rules
 
 pub returns-in_err-content : goal.returns-in_err-content
 unfolding entries_at

@@ -2,7 +2,7 @@ use Rattle.std.proofs.Common.{◌≡◌, ℕ, ◌+◌, ◌-◌, ◌*◌, List, t
 use lib.Lanes.{zip2}
 use Rattle.compression.specs.Words.{plus}
 use Rattle.compression.specs.Constants.{constants}
-use Rattle.compression.specs.Block.{rounds, schedule, words, compress}
+use Rattle.compression.specs.Block.{rounds, schedule, compress}
 use Rattle.compression.specs.Windows.{words_in}
 use Rattle.compression.proofs.BlockLaws.{schedule-none}
 use Rattle.compression.proofs.WindowLaws.{rounds-left}
@@ -34,5 +34,5 @@ returns c =
     let three : 3 ≡ c.loop-j.j = omega arith in
     c.add8.ensures
     ∙ ap (zip2 plus c.args.h)
-    (c.last-sixteen.ensures ∙ ap (λ (ws : List ℕ). rounds (drop 48 constants) ws s.v) (sym (schedule-none x))
+    (c.last_sixteen.ensures ∙ ap (λ (ws : List ℕ). rounds (drop 48 constants) ws s.v) (sym (schedule-none x))
     ∙ ap (λ (i : ℕ). rounds (drop (16 * i) constants) (schedule (48 - 16 * i) x) s.v) three ∙ c.loop-j.invariant.0)

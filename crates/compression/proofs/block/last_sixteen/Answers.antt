@@ -10,6 +10,6 @@ returns c =
     let s = c.args.s in
     let k = c.args.k.now in
     let part : ℕ → List ℕ = λ i. take 4 (drop i k) in
-    (c.four-rounds.ensures ∙ ap (rounds (part 12) s.w3) (c.four-rounds-v-3.ensures ∙ ap (rounds (part 8) s.w2) (c.four-rounds-v-2.ensures ∙ ap (rounds (part 4) s.w1) c.four-rounds-v.ensures))
+    (c.four_rounds.ensures ∙ ap (rounds (part 12) s.w3) (c.four_rounds-v-3.ensures ∙ ap (rounds (part 8) s.w2) (c.four_rounds-v-2.ensures ∙ ap (rounds (part 4) s.w1) c.four_rounds-v.ensures))
     ∙ sym (rounds-four-parts (part 0) (part 4) (part 8) (part 12) s.w0 s.w1 s.w2 s.w3 s.v (search rules) (search rules) (search rules))
     ∙ ap (λ (ks : List ℕ). rounds ks (words_in s) s.v) (sym (in-fours k c.requires)))

@@ -8,8 +8,8 @@ unfolding words
 returns c =
     record {
       words =
-          ap₂ (λ (a b : List ℕ). a ++ b) c.four-words-w0.ensures (ap₂ (λ (a b : List ℕ). a ++ b) c.four-words-w1.ensures
-          (ap₂ (λ (a b : List ℕ). a ++ b) c.four-words-w2.ensures c.four-words-w3.ensures));
-      long = length-window _ _ _ _ (ap length c.four-words-w0.ensures) (ap length c.four-words-w1.ensures) (ap length c.four-words-w2.ensures) (ap length c.four-words-w3.ensures);
+          ap₂ (λ (a b : List ℕ). a ++ b) c.four_words-w0.ensures (ap₂ (λ (a b : List ℕ). a ++ b) c.four_words-w1.ensures
+          (ap₂ (λ (a b : List ℕ). a ++ b) c.four_words-w2.ensures c.four_words-w3.ensures));
+      long = length-window _ _ _ _ (ap length c.four_words-w0.ensures) (ap length c.four_words-w1.ensures) (ap length c.four_words-w2.ensures) (ap length c.four_words-w3.ensures);
       state = refl;
     }

@@ -11,9 +11,9 @@ returns c =
     let w = c.args.w in
     let lw : length w ≡ 4 = search rules in
     let e = lanes4 k w c.requires lw in
-    rounds-step _ _ _ _ _ _ _ (c.round-at-v.ensures (get_or k 0 0) (get_or w 0 0) (ap (λ (l : List ℕ). get_or l 0 0) e))
-    (rounds-step _ _ _ _ _ _ _ (c.round-at-v-2.ensures (get_or k 1 0) (get_or w 1 0) (ap (λ (l : List ℕ). get_or l 1 0) e))
-    (rounds-step _ _ _ _ _ _ _ (c.round-at-v-3.ensures (get_or k 2 0) (get_or w 2 0) (ap (λ (l : List ℕ). get_or l 2 0) e))
-    (rounds-step _ _ _ _ _ _ _ (c.round-at.ensures (get_or k 3 0) (get_or w 3 0) (ap (λ (l : List ℕ). get_or l 3 0) e))
+    rounds-step _ _ _ _ _ _ _ (c.round_at-v.ensures (get_or k 0 0) (get_or w 0 0) (ap (λ (l : List ℕ). get_or l 0 0) e))
+    (rounds-step _ _ _ _ _ _ _ (c.round_at-v-2.ensures (get_or k 1 0) (get_or w 1 0) (ap (λ (l : List ℕ). get_or l 1 0) e))
+    (rounds-step _ _ _ _ _ _ _ (c.round_at-v-3.ensures (get_or k 2 0) (get_or w 2 0) (ap (λ (l : List ℕ). get_or l 2 0) e))
+    (rounds-step _ _ _ _ _ _ _ (c.round_at.ensures (get_or k 3 0) (get_or w 3 0) (ap (λ (l : List ℕ). get_or l 3 0) e))
     (rounds-none _))))
     ∙ ap₂ (λ (ks ws : List ℕ). rounds ks ws c.args.v) (sym (spelled4 k c.requires)) (sym (spelled4 w lw))

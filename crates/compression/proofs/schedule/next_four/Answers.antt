@@ -12,5 +12,5 @@ returns c =
     let w3 = c.args.w3 in
     next-four-law w0 w1 w2 w3 (search rules) (search rules) (search rules) (search rules)
     ∙ ap (λ (t : List ℕ). w0 ++ (w1 ++ (w2 ++ (w3 ++ t))))
-    (sym (ap (zip2 plus (some_of w0 w2 w3 c.small0-each.result c.small1-each.result)) c.small1-each-2.ensures
-    ∙ ap₂ (λ (s t : List ℕ). all_of (some_of w0 w2 w3 s t)) c.small0-each.ensures c.small1-each.ensures))
+    (sym (ap (zip2 plus (some_of w0 w2 w3 c.small0_each.result c.small1_each.result)) c.small1_each-2.ensures
+    ∙ ap₂ (λ (s t : List ℕ). all_of (some_of w0 w2 w3 s t)) c.small0_each.ensures c.small1_each.ensures))

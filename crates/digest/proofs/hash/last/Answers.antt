@@ -18,4 +18,4 @@ returns c =
     let e : take (end - 0) c.pad-tail.result ≡ rest ++ padding total =
     ap (λ (n : ℕ). take n c.pad-tail.result) whole ∙ c.pad-tail.ensures
     ∙ ap (λ (n : ℕ). rest ++ (0x80 ∷ (replicate n 0 ++ octets8 (8 * total)))) zeros in
-    c.absorb-blocks.ensures ∙ ap (λ (x : List ℕ). absorbed (length x / 64) c.args.h x) e
+    c.absorb_blocks.ensures ∙ ap (λ (x : List ℕ). absorbed (length x / 64) c.args.h x) e

@@ -14,8 +14,8 @@ loop-i-preserved c =
     let within : i < length c.args.v = omega arith in
     let room : 4 * i ≤ length c.loop-i.out = omega arith in
     let same : length c.put.new.s ≡ 32 = search rules in (
-      octets-more c.args.v c.loop-i.out c.to-be-bytes-word.result c.put.new.s _ i within c.loop-i.invariant.0 room
-          c.to-be-bytes-word.ensures c.put.ensures,
+      octets-more c.args.v c.loop-i.out c.to_be_bytes-word.result c.put.new.s _ i within c.loop-i.invariant.0 room
+          c.to_be_bytes-word.ensures c.put.ensures,
       same,
     )
 

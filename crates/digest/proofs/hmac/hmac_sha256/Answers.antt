@@ -15,7 +15,7 @@ returns c =
     let long2 = length-keyed 0x5c key c.told-key in
     let inner =
     c.finish-inner.ensures (keyed 0x36 key) long
-    (c.compress.ensures ∙ ap (compress initial) c.keyed-block.ensures ∙ one_block initial (keyed 0x36 key) long) in
+    (c.compress.ensures ∙ ap (compress initial) c.keyed_block.ensures ∙ one_block initial (keyed 0x36 key) long) in
     c.finish.ensures (keyed 0x5c key) long2
-    (c.compress-2.ensures ∙ ap (compress initial) c.keyed-block-2.ensures ∙ one_block initial (keyed 0x5c key) long2)
+    (c.compress-2.ensures ∙ ap (compress initial) c.keyed_block-2.ensures ∙ one_block initial (keyed 0x5c key) long2)
     ∙ ap (λ (t : List ℕ). sha256 (keyed 0x5c key ++ t)) inner

@@ -8,13 +8,13 @@ use Rattle.writable.specs.Entries.{reason_octets}
 use Rattle.writable.proofs.Entered.{reason-length, reason-inner}
 use Rattle.writable.proofs.entries.put_reason.Goals as goal
 
-pub put-head-start-requires : goal.put_head-start-requires
-put-head-start-requires c =
+pub put_head-start-requires : goal.put_head-start-requires
+put_head-start-requires c =
     let l = ap (λ o. length (reason_octets (mapped reason_number o))) c.in-Some.is ∙ reason-length (reason_number c.in-Some.found) in
     record { room = omega arith; short = omega arith }
 
-pub put-extension-requires : goal.put_extension-requires
-put-extension-requires c =
+pub put_extension-requires : goal.put_extension-requires
+put_extension-requires c =
     let l = ap (λ o. length (reason_octets (mapped reason_number o))) c.in-Some.is ∙ reason-length (reason_number c.in-Some.found) in
     let i = reason-inner c.number.result in
     record { room = omega (arith, c.put_head-start.ensures.end_is, c.put_head-start.auto.out); short = omega arith }

@@ -3,31 +3,31 @@ use Rattle.encode.proofs.Overs.{moved}
 use Rattle.writable.proofs.Timed.{utc-length, general-length, utc-octets, general-octets, no-octets}
 use Rattle.writable.proofs.entries.put_time.Goals as goal
 
-pub put-item-requires : goal.put_item-requires
-put-item-requires c =
+pub put_item-requires : goal.put_item-requires
+put_item-requires c =
     let e = sym c.in-Some.ensures in
     let l = ap length (utc-octets c.args.date _ e) in
     let k = utc-length c.args.date _ e in
     record { room = omega arith; short = omega arith }
 
-pub put-item-requires-in-Some-general-text : goal.put_item-requires-in-Some-general_text
-put-item-requires-in-Some-general-text c =
+pub put_item-requires-in-Some-general_text : goal.put_item-requires-in-Some-general_text
+put_item-requires-in-Some-general_text c =
     let e = sym c.in-None.ensures in
     let f = sym c.in-Some-general_text.ensures.text in
     let l = ap length (general-octets c.args.date _ e f) in
     let k = general-length c.args.date _ f in
     record { room = omega arith; short = omega arith }
 
-pub put-item-requires-in-None-general-text : goal.put_item-requires-in-None-general_text
-put-item-requires-in-None-general-text c =
+pub put_item-requires-in-None-general_text : goal.put_item-requires-in-None-general_text
+put_item-requires-in-None-general_text c =
     let l = ap length (no-octets c.args.date (sym c.in-None.ensures) (sym c.in-None-general_text.ensures.text)) in
     record { room = omega arith; short = omega arith }
 
 pub returns-in-Some : goal.returns-in-Some
 returns-in-Some c = moved (sym (utc-octets c.args.date _ (sym c.in-Some.ensures))) c.put_item.ensures.put
 
-pub returns-in-Some-general-text : goal.returns-in-Some-general_text
-returns-in-Some-general-text c = moved (sym (general-octets c.args.date _ (sym c.in-None.ensures) (sym c.in-Some-general_text.ensures.text))) c.put_item-in-Some-general_text.ensures.put
+pub returns-in-Some-general_text : goal.returns-in-Some-general_text
+returns-in-Some-general_text c = moved (sym (general-octets c.args.date _ (sym c.in-None.ensures) (sym c.in-Some-general_text.ensures.text))) c.put_item-in-Some-general_text.ensures.put
 
-pub returns-in-None-general-text : goal.returns-in-None-general_text
-returns-in-None-general-text c = moved (sym (no-octets c.args.date (sym c.in-None.ensures) (sym c.in-None-general_text.ensures.text))) c.put_item-in-None-general_text.ensures.put
+pub returns-in-None-general_text : goal.returns-in-None-general_text
+returns-in-None-general_text c = moved (sym (no-octets c.args.date (sym c.in-None.ensures) (sym c.in-None-general_text.ensures.text))) c.put_item-in-None-general_text.ensures.put

@@ -9,16 +9,16 @@ returns-in-Some c =
     let k = short-item 23 c.in-Some.field-0 13 (utc-length c.args.date _ e) (omega arith) in
     omega arith
 
-pub returns-in-Some-general-text : goal.returns-in-Some-general_text
-returns-in-Some-general-text c =
+pub returns-in-Some-general_text : goal.returns-in-Some-general_text
+returns-in-Some-general_text c =
     let e = sym c.in-None.ensures in
     let f = sym c.in-Some-general_text.ensures.text in
     let l = ap length (general-octets c.args.date _ e f) in
     let k = short-item 24 c.in-Some-general_text.field-0 15 (general-length c.args.date _ f) (omega arith) in
     omega arith
 
-pub returns-in-None-general-text : goal.returns-in-None-general_text
-returns-in-None-general-text c =
+pub returns-in-None-general_text : goal.returns-in-None-general_text
+returns-in-None-general_text c =
     let l = ap length (no-octets c.args.date (sym c.in-None.ensures) (sym c.in-None-general_text.ensures.text)) in
     let k = short-item 24 [] 0 refl (omega arith) in
     omega arith

@@ -5,18 +5,18 @@ use Rattle.writable.specs.Extensions.{extension_content, extension_octets, flag_
 use Rattle.writable.proofs.Lengths.{lengths}
 use Rattle.writable.proofs.extensions.put_extension.Goals as goal
 
-pub content-size-requires : goal.content_size-requires
-content-size-requires c = let l = lengths c.args.identifier.now c.args.critical c.args.content.now in (omega arith, omega arith)
+pub content_size-requires : goal.content_size-requires
+content_size-requires c = let l = lengths c.args.identifier.now c.args.critical c.args.content.now in (omega arith, omega arith)
 
-pub put-head-start-requires : goal.put_head-start-requires
-put-head-start-requires c =
+pub put_head-start-requires : goal.put_head-start-requires
+put_head-start-requires c =
     let l = lengths c.args.identifier.now c.args.critical c.args.content.now in
     let e = c.content_size.ensures.whole c.args.identifier.now c.args.content.now refl refl in
     let h = ap (λ n. length (length_octets n)) e in
     record { room = omega arith; short = omega arith }
 
-pub put-item-flag-requires : goal.put_item-flag-requires
-put-item-flag-requires c =
+pub put_item-flag-requires : goal.put_item-flag-requires
+put_item-flag-requires c =
     let l = lengths c.args.identifier.now c.args.critical c.args.content.now in
     let e = c.content_size.ensures.whole c.args.identifier.now c.args.content.now refl refl in
     let h = ap (λ n. length (length_octets n)) e in
@@ -30,8 +30,8 @@ put-value-requires c =
     let f = ap length c.flag_octets.ensures in
     omega (arith, c.put_head-start.ensures.end_is, c.put_head-start.auto.out, c.put_item-flag.ensures.put.end_is, c.put_item-flag.auto.out)
 
-pub put-item-requires : goal.put_item-requires
-put-item-requires c =
+pub put_item-requires : goal.put_item-requires
+put_item-requires c =
     let l = lengths c.args.identifier.now c.args.critical c.args.content.now in
     let e = c.content_size.ensures.whole c.args.identifier.now c.args.content.now refl refl in
     let h = ap (λ n. length (length_octets n)) e in

@@ -1,6 +1,5 @@
 use Rattle.std.proofs.Common.{◌≡◌, ℕ, ◌+◌, ◌-◌, ◌*◌, ◌/◌, ◌%◌, ◌^◌, ◌<◌, ◌≤◌, List, ◌++◌, length, take, drop, refl, ap, ◌∙◌, arith, length-append, rules}
 use Rattle.std.proofs.lemmas.List.{take_rest}
-use Rattle.compression.specs.Block.{compress}
 use Rattle.digest.specs.Sha256.{absorbed}
 use Rattle.digest.proofs.HasherLaws.{small-state, small-rest, large-state, large-rest}
 use Rattle.digest.proofs.hasher.Hasher.after.Goals as goal
@@ -39,7 +38,7 @@ returns c = λ m h.
     let lb : length s.buffer ≡ 64 = search rules in
     record {
       state-is =
-          c.absorb-blocks-state.ensures ∙ ap (λ (v : List ℕ). absorbed (length r / 64) v r) c.compress.ensures
+          c.absorb_blocks-state.ensures ∙ ap (λ (v : List ℕ). absorbed (length r / 64) v r) c.compress.ensures
           ∙ large-state m part s.buffer f r filled room same refl enough ef er h.rest-is lb s.state c.over-block.result h.state-is c.over-block.ensures;
       rest-is =
           ap (take (length (m ++ part) % 64)) (c.over-buffer-2.ensures ∙ ap (λ (t : List ℕ). t ++ drop (0 + length (take (length r - at) (drop at r))) s.buffer) (take_rest r at))

@@ -12,8 +12,8 @@ pub loop-turn-init : goal.loop-turn-init
 loop-turn-init g c =
     λ plain. ([], record { wrote = writes_in_calls_nil g.W.Write.write_str_gives _; plain = plain }, ap (λ n. run-text n (piece_of c.in-Some.left)) (let e : c.args.self.now.0.count - 0 ≡ c.args.self.now.0.count = omega arith in e))
 
-pub returns-in-default-next-entry-clause-writes : goal.returns-in-default-next_entry-clause-writes
-returns-in-default-next-entry-clause-writes g c =
+pub returns-in-default-next_entry-clause-writes : goal.returns-in-default-next_entry-clause-writes
+returns-in-default-next_entry-clause-writes g c =
     λ plain ok.
     let b = c.loop-turn.invariant plain in
     let p = piece_of c.loop-turn.left in

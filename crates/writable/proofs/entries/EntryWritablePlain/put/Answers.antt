@@ -6,35 +6,35 @@ use Rattle.writable.specs.Entries.{entry_content, entry_octets}
 use Rattle.writable.proofs.Entered.{entry-lengths, entry-reads}
 use Rattle.writable.proofs.entries.EntryWritablePlain.put.Goals as goal
 
-pub content-size-content-requires : goal.content_size-content-requires
-content-size-content-requires c = let l = entry-lengths (line_of c.args.self.now) in omega arith
+pub content_size-content-requires : goal.content_size-content-requires
+content_size-content-requires c = let l = entry-lengths (line_of c.args.self.now) in omega arith
 
-pub put-head-start-requires : goal.put_head-start-requires
-put-head-start-requires c =
+pub put_head-start-requires : goal.put_head-start-requires
+put_head-start-requires c =
     let s = (line_of c.args.self.now).serial in
     let l = entry-lengths (line_of c.args.self.now) in
     let e = c.content_size-content.ensures.whole s.octets s.offset refl in
     let h = ap (λ n. length (length_octets n)) e in
     record { room = omega arith; short = omega arith }
 
-pub put-item-date-requires : goal.put_item-date-requires
-put-item-date-requires c =
+pub put_item-date-requires : goal.put_item-date-requires
+put_item-date-requires c =
     let s = (line_of c.args.self.now).serial in
     let l = entry-lengths (line_of c.args.self.now) in
     let e = c.content_size-content.ensures.whole s.octets s.offset refl in
     let h = ap (λ n. length (length_octets n)) e in
     record { room = omega (arith, c.put_head-start.ensures.end_is, c.put_head-start.auto.out); short = omega arith }
 
-pub put-time-reason-requires : goal.put_time-reason-requires
-put-time-reason-requires c =
+pub put_time-reason-requires : goal.put_time-reason-requires
+put_time-reason-requires c =
     let s = (line_of c.args.self.now).serial in
     let l = entry-lengths (line_of c.args.self.now) in
     let e = c.content_size-content.ensures.whole s.octets s.offset refl in
     let h = ap (λ n. length (length_octets n)) e in
     omega (arith, c.put_head-start.ensures.end_is, c.put_head-start.auto.out, c.put_item-date.ensures.put.end_is, c.put_item-date.auto.out)
 
-pub put-reason-requires : goal.put_reason-requires
-put-reason-requires c =
+pub put_reason-requires : goal.put_reason-requires
+put_reason-requires c =
     let s = (line_of c.args.self.now).serial in
     let l = entry-lengths (line_of c.args.self.now) in
     let e = c.content_size-content.ensures.whole s.octets s.offset refl in
