@@ -17,17 +17,17 @@ pub returns-in_err-content : goal.returns-in_err-content
 unfolding reasons_at
 returns-in_err-content c = search rules
 
-pub returns-in_err--count : goal.returns-in_err--count
+pub returns-in_err-_count : goal.returns-in_err-_count
 unfolding reasons_at
-returns-in_err--count c =
-    let e : run_of (extension_step InEntry) silent (piece_of c.in_ok-content.content) ≡ Err (flaw_of c.in_err--count.field-0.0) =
-    ap (λ a. run_of (extension_step InEntry) a (piece_of c.in_ok-content.content)) (sym c.untold.ensures) ∙ walk-err extension_of entry_tells (extension_step InEntry) _ _ _ _ _ _ _ c.in_err--count.ensures in
+returns-in_err-_count c =
+    let e : run_of (extension_step InEntry) silent (piece_of c.in_ok-content.content) ≡ Err (flaw_of c.in_err-_count.field-0.0) =
+    ap (λ a. run_of (extension_step InEntry) a (piece_of c.in_ok-content.content)) (sym c.untold.ensures) ∙ walk-err extension_of entry_tells (extension_step InEntry) _ _ _ _ _ _ _ c.in_err-_count.ensures in
     search rules
 
 pub returns : goal.returns
 unfolding reasons_at
 returns c =
-    let w = walk-ok extension_of entry_tells (extension_step InEntry) _ _ _ _ _ _ _ c.in_ok--count.ensures in
+    let w = walk-ok extension_of entry_tells (extension_step InEntry) _ _ _ _ _ _ _ c.in_ok-_count.ensures in
     let e : run_of (extension_step InEntry) silent (piece_of c.in_ok-content.content) ≡ Ok (record { one = map extension_of w.0; two = entry_tells c.walk.new.state }) =
     ap (λ a. run_of (extension_step InEntry) a (piece_of c.in_ok-content.content)) (sym c.untold.ensures) ∙ w.2 in
     search rules

@@ -16,9 +16,7 @@ returns-then-not-fits c =
     }
 
 pub pair-requires : goal.pair-requires
-pair-requires c =
-    let two = two_at utc_form c.args.text.now c.if-not-fits.ensures in
-    two 0 refl refl
+pair-requires c = two_at utc_form c.args.text.now c.if-not-fits.ensures _ refl refl
 
 pub time_in-requires : goal.time_in-requires
 time_in-requires c =
