@@ -24,5 +24,5 @@ returns c =
           (cons_same c.one-7.ensures
           (cons_same c.one-8.ensures
           (cons_same c.two-2.ensures refl)))))))));
-      moments = cons_same c.read-utc.ensures.read (cons_same c.read-utc-2.ensures.read (cons_same c.read-utc-3.ensures.read refl));
+      moments = cons_same c.read_utc.ensures.read (cons_same c.read_utc-2.ensures.read (cons_same c.read_utc-3.ensures.read refl));
     }

@@ -6,17 +6,17 @@ use Rattle.tokens.proofs.hex.unhex.Goals as goal
 pub returns-then-word-ne0 : goal.returns-then-word-ne0
 returns-then-word-ne0 c = record { value = odd c.args.word.now (omega arith) }
 
-pub returns-in-default : goal.returns-in-default
-returns-in-default c =
+pub returns-in_default : goal.returns-in_default
+returns-in_default c =
     let word = c.args.word.now in
     let h : 2 * c.loop-i.i + 1 < length word = omega arith in
-    record { value = sym c.loop-i.invariant ∙ ap (then (vec_items c.loop-i.octets)) (no-high word (2 * c.loop-i.i) h (sym c.nibble.ensures.value ∙ c.in-default.is)) }
+    record { value = sym c.loop-i.invariant ∙ ap (then (vec_items c.loop-i.octets)) (no-high word (2 * c.loop-i.i) h (sym c.nibble.ensures.value ∙ c.in_default.is)) }
 
-pub returns-in-default-nibble : goal.returns-in-default-nibble
-returns-in-default-nibble c =
+pub returns-in_default-nibble : goal.returns-in_default-nibble
+returns-in_default-nibble c =
     let word = c.args.word.now in
     let h : 2 * c.loop-i.i + 1 < length word = omega arith in
-    record { value = sym c.loop-i.invariant ∙ ap (then (vec_items c.loop-i.octets)) (no-low word (2 * c.loop-i.i) h (sym c.nibble-in-loop-i.ensures.value ∙ c.in-default-nibble.is)) }
+    record { value = sym c.loop-i.invariant ∙ ap (then (vec_items c.loop-i.octets)) (no-low word (2 * c.loop-i.i) h (sym c.nibble-in-loop-i.ensures.value ∙ c.in_default-nibble.is)) }
 
 pub loop-i-preserved : goal.loop-i-preserved
 loop-i-preserved c =
@@ -24,7 +24,7 @@ loop-i-preserved c =
     let h : 2 * c.loop-i.i + 1 < length word = omega arith in
     let next : 2 * (c.loop-i.i + 1) ≡ 2 * c.loop-i.i + 1 + 1 = omega arith in
     let step = one_more word (2 * c.loop-i.i) (vec_items c.loop-i.octets) c.in-Some.high c.in-Some-nibble.low h (sym c.nibble.ensures.value ∙ c.in-Some.is) (sym c.nibble-in-loop-i.ensures.value ∙ c.in-Some-nibble.is) in
-    let items = c.in-ok-push.ensures.items in
+    let items = c.in_ok-push.ensures.items in
     (λ k. then (items k) (unhexed (drop (next k) word))) ∙ sym step ∙ c.loop-i.invariant
 
 pub returns : goal.returns

@@ -4,8 +4,8 @@ use Rattle.tokens.proofs.Scans.{run_more, run-all}
 use Rattle.tokens.specs.Words.{is-blank}
 use Rattle.tokens.proofs.words.blanks.Goals as goal
 
-pub returns-then-not-is-blank : goal.returns-then-not-is-blank
-returns-then-not-is-blank c =
+pub returns-then-not-is_blank : goal.returns-then-not-is_blank
+returns-then-not-is_blank c =
     let e = run_more is-blank c.args.line.now c.loop-i.i c.loop-i-test.true in
     grind (arith, nat_tests)
 

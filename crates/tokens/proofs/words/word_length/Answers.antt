@@ -4,8 +4,8 @@ use Rattle.tokens.proofs.Scans.{run_more, run-all}
 use Rattle.tokens.specs.Words.{in-word}
 use Rattle.tokens.proofs.words.word_length.Goals as goal
 
-pub returns-then-is-blank : goal.returns-then-is-blank
-returns-then-is-blank c =
+pub returns-then-is_blank : goal.returns-then-is_blank
+returns-then-is_blank c =
     let e = run_more in-word c.args.line.now c.loop-i.i c.loop-i-test.true in
     grind (arith, nat_tests)
 
