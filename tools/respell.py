@@ -36,10 +36,15 @@ STATEMENTS = {
     "All-worked": "AllWorked",
     "Not-inspects": "NotInspects",
 }
+# Definitions whose words a dash parted.
+DASHED = """rest-is state-is total-is reads-back writes-back algorithm-text block-text entries-text entry-text first-text input-word
+line-text list-text place-text reason-text refused-text rest-text run-text said-text signed-text hex-digit moment-or-dash
+moment-text or-dash no-list ruling-at in-line in-word is-blank all-text answer-text command-text inspect-text verb-word
+fault-text flaw-text""".split()
 STAYS = {"lB", "lC", "lD", "cases_Bool"}
 WORD = re.compile(r"[A-Za-z_][\w]*")
 CAMEL = re.compile(r"[a-z][a-z0-9_]*[A-Z]\w*\Z")
-GHOST = re.compile(r"(?:ghost\s+use\s[^;]*;|ghost\s+\w+\s*:\s*\{)|(?:requires|ensures)\*?(?:\s+\w+)?\s*\{")
+GHOST = re.compile(r"(?:ghost\s+use\s[^;]*;|ghost\s+\w+\s*[:=]\s*\{)|(?:requires|ensures)\*?(?:\s+\w+)?\s*\{")
 
 
 def snake(word):
@@ -76,7 +81,7 @@ def turned(text, declared):
             return FUNCTIONS[w]
         return snake(w) if CAMEL.match(w) and w not in STAYS else w
 
-    for old, new in STATEMENTS.items():
+    for old, new in [*STATEMENTS.items(), *((it, it.replace("-", "_")) for it in DASHED)]:
         text = re.sub(rf"(?<![\w-]){old}(?![\w-])", new, text)
     return WORD.sub(word, text)
 

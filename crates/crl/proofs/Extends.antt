@@ -53,8 +53,8 @@ optional-exact {V} {t} F x = in-tag {t = t} {G = λ s c u. or_fault (F c) (x s) 
 expired-exact : ExactIf Always (value_at Expired) (InTag 24 (λ e t. (m : ℕ) × (m ≤ 254033452799) × (general_text m ≡ Some e.octets) × (t ≡ record { number = None; expired = Some m; reason = None })))
 unfolding expired_at
 expired-exact = recast _ (made (λ m. record { number = None; expired = Some m; reason = None }) (optional-exact {t = 24} (λ c. general_read c.octets) (λ s. flaw 7 s.offset)))
-    (λ p w v h. let b = general-inverse.writes-back h.1.0.octets h.0 h.1.2 in (h.1.0, h.1.1, (h.0, b.0, b.1, h.2)))
-    (λ p w v h. let m = h.2.0 in (m, (h.0, h.1, text-reads general_text general_read m h.0.octets (general-inverse.reads-back m h.2.1) h.2.2), h.2.3))
+    (λ p w v h. let b = general-inverse.writes_back h.1.0.octets h.0 h.1.2 in (h.1.0, h.1.1, (h.0, b.0, b.1, h.2)))
+    (λ p w v h. let m = h.2.0 in (m, (h.0, h.1, text-reads general_text general_read m h.0.octets (general-inverse.reads_back m h.2.1) h.2.2), h.2.3))
 
 -- the one octet of a reason
 reason-in : (xs : List ℕ) (n : ℕ) → reason_in xs ≡ Some n → (xs ≡ n ∷ []) × (admitted n ≡ true)

@@ -45,12 +45,12 @@ time-tag t e = elim (cases_Bool (eqb t 23)) [ inl h ↦ inl (eqb-true t 23 h) | 
 said : (t p m : ℕ) (w : List ℕ) (c : Piece) → (t ≡ 23) ⊎ (t ≡ 24) → Tagged t p w c → time_by t c.octets ≡ Some m → IsTime p w m
 said t p m w c (inl h) k e =
     let f : utc_read c.octets ≡ Some m = subst (λ n. time_by n c.octets ≡ Some m) h e in
-    let b = utc-inverse.writes-back c.octets m f in
+    let b = utc-inverse.writes_back c.octets m f in
     inl (c, subst (λ n. Tagged n p w c) h k, (omega (arith, b.0), b.1))
 said t p m w c (inr h) k e =
     let f : late (general_read c.octets) ≡ Some m = subst (λ n. time_by n c.octets ≡ Some m) h e in
     let l = late-in (general_read c.octets) m f in
-    let b = general-inverse.writes-back c.octets m l.0 in
+    let b = general-inverse.writes_back c.octets m l.0 in
     inr (c, subst (λ n. Tagged n p w c) h k, (l.1, b.0, b.1))
 
 -- a time in front
@@ -64,10 +64,10 @@ time-front s g t c tag k e =
 
 time-full : (s : Left) (g : Got ℕ) (w : List ℕ) → s.rest ≡ w ++ g.left.rest → g.left.offset ≡ s.offset + length w → IsTime s.offset w g.value → time_at s ≡ Ok g
 time-full s g w r o (inl h) =
-    let e = text-reads utc_text utc_read g.value h.0.octets (utc-inverse.reads-back g.value (omega (arith, h.2.0))) h.2.1 in
+    let e = text-reads utc_text utc_read g.value h.0.octets (utc-inverse.reads_back g.value (omega (arith, h.2.0))) h.2.1 in
     time-front s g 23 h.0 refl (record { front = w; rest = r; offset = o; shape = h.1 }) e
 time-full s g w r o (inr h) =
-    let f = text-reads general_text general_read g.value h.0.octets (general-inverse.reads-back g.value h.2.1) h.2.2 in
+    let f = text-reads general_text general_read g.value h.0.octets (general-inverse.reads_back g.value h.2.1) h.2.2 in
     let e : late (general_read h.0.octets) ≡ Some g.value = ap late f ∙ cond-true (leb 3155760000 g.value) _ _ (le-leb _ _ h.2.0) in
     time-front s g 24 h.0 refl (record { front = w; rest = r; offset = o; shape = h.1 }) e
 

@@ -60,14 +60,14 @@ module _ (x r : List ℕ) (k : ℕ) (lx : length x ≡ k * 64) where
 
 module _ (m part buffer f r : List ℕ) (filled room : ℕ)
     (ef : filled ≡ length m % 64) (er : room ≡ 64 - filled) (enough : room ≤ length part)
-    (first-is : f ≡ take room part) (rest-is : r ≡ drop room part)
+    (first-is : f ≡ take room part) (rest_is : r ≡ drop room part)
     (held : take (length m % 64) buffer ≡ drop (length m / 64 * 64) m) (lb : length buffer ≡ 64) where
   lf : length f ≡ room
   lf = ap length first-is ∙ length-take-le room part enough
 
   whole : m ++ part ≡ (m ++ f) ++ r
   whole =
-      ap (λ (t : List ℕ). m ++ t) (sym (take-append-drop room part) ∙ ap₂ (λ (a b : List ℕ). a ++ b) (sym first-is) (sym rest-is)) ∙ sym (append_assoc m f r)
+      ap (λ (t : List ℕ). m ++ t) (sym (take-append-drop room part) ∙ ap₂ (λ (a b : List ℕ). a ++ b) (sym first-is) (sym rest_is)) ∙ sym (append_assoc m f r)
 
   lmf : length (m ++ f) ≡ (length m / 64 + 1) * 64
   lmf = length-append m f ∙ (let s : length m + length f ≡ (length m / 64 + 1) * 64 = omega (arith, lf) in s)
@@ -85,11 +85,11 @@ module _ (m part buffer f r : List ℕ) (filled room : ℕ)
       let none : drop (filled + length f) buffer ≡ [] = drop_all (filled + length f) buffer (omega (arith, lf)) in
       ap₂ (λ (a b : List ℕ). a ++ (f ++ b)) (ap (λ (j : ℕ). take j buffer) ef ∙ held) none ∙ ap (λ (t : List ℕ). old ++ t) (append-nil f)
 
-  state-is : (state block : List ℕ) → state ≡ absorbed (length m / 64) initial m
+  state_is : (state block : List ℕ) → state ≡ absorbed (length m / 64) initial m
       → block ≡ take filled buffer ++ (f ++ drop (filled + length f) buffer)
       → compress state block ≡ absorbed (length m / 64 + 1) initial (m ++ f)
   unfolding old
-  state-is state block es eb =
+  state_is state block es eb =
       let q = length m / 64 in
       let front = take (q * 64) m in
       let lq : length front ≡ q * 64 = length-take-le (q * 64) m (omega arith) in
@@ -102,7 +102,7 @@ module _ (m part buffer f r : List ℕ) (filled room : ℕ)
       → block ≡ take filled buffer ++ (f ++ drop (filled + length f) buffer)
       → absorbed (length r / 64) (compress state block) r ≡ absorbed (length (m ++ part) / 64) initial (m ++ part)
   large-state state block es eb =
-      whole-state (m ++ f) r (length m / 64 + 1) lmf (compress state block) (state-is state block es eb)
+      whole-state (m ++ f) r (length m / 64 + 1) lmf (compress state block) (state_is state block es eb)
       ∙ ap (λ (t : List ℕ). absorbed (length t / 64) initial t) (sym whole)
 
   pub large-rest : (z : List ℕ) → take (length (m ++ part) % 64) (drop (length r / 64 * 64) r ++ z) ≡ drop (length (m ++ part) / 64 * 64) (m ++ part)

@@ -58,13 +58,13 @@ pub general-inverse : GeneralizedTimeInverse
 unfolding general_text general_read
 general-inverse =
     record {
-      reads-back = λ m h.
+      reads_back = λ m h.
           let t = time_at m in (
             lay general_form (digits_of t),
             ap (written general_form 0) (moment-has-time m h),
             reads-back-by general_form 0 general_time m h refl (general-spelled t (valid-short t (time-valid m h))),
           );
-      writes-back = λ xs m e.
+      writes_back = λ xs m e.
           let r = read_found general_form (general_time xs) xs m e in
           writes-back-by general_form 0 (general_time xs) xs m r.1 (general-digits xs r.0);
     }
@@ -73,13 +73,13 @@ pub rfc3339-inverse : Rfc3339Inverse
 unfolding rfc3339_text rfc3339_read
 rfc3339-inverse =
     record {
-      reads-back = λ m h.
+      reads_back = λ m h.
           let t = time_at m in (
             lay rfc3339_form (digits_of t),
             ap (written rfc3339_form 0) (moment-has-time m h),
             reads-back-by rfc3339_form 0 rfc3339_time m h refl (rfc3339-spelled t (valid-short t (time-valid m h))),
           );
-      writes-back = λ xs m e.
+      writes_back = λ xs m e.
           let r = read_found rfc3339_form (rfc3339_time xs) xs m e in
           writes-back-by rfc3339_form 0 (rfc3339_time xs) xs m r.1 (rfc3339-digits xs r.0);
     }
@@ -108,7 +108,7 @@ pub utc-inverse : UtcTimeInverse
 unfolding utc_text utc_read
 utc-inverse =
     record {
-      reads-back = λ m h.
+      reads_back = λ m h.
           let t = time_at m in
           let l : m ≤ 254033452799 = omega arith in
           let v = time-valid m l in
@@ -121,7 +121,7 @@ utc-inverse =
                 ∙ ap (written utc_form 2) (moment-has-time m l),
             reads-back-by utc_form 2 utc_time m l refl (utc-spelled t (valid-short t v) v.date.year-from y),
           );
-      writes-back = λ xs m e.
+      writes_back = λ xs m e.
           let r = read_found utc_form (utc_time xs) xs m e in
           let w = writes-back-by utc_form 2 (utc_time xs) xs m r.1 (utc-digits xs r.0) in
           let v = moment-valid (utc_time xs) m r.1 in

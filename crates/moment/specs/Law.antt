@@ -9,8 +9,8 @@ use Rattle.moment.specs.Texts.{utc_text, utc_read, general_text, general_read, r
 -- Writing and reading are inverse on the moments up to `last`: each is written, and the text reads as it;
 -- what reads as a moment is the text that is written for it, and the moment is one of those.
 pub record Inverse (text : ℕ → Option (List ℕ)) (read : List ℕ → Option ℕ) (last : ℕ) : Type 0 where
-  pub reads-back : (m : ℕ) → m ≤ last → (xs : List ℕ) × (text m ≡ Some xs) × (read xs ≡ Some m)
-  pub writes-back : (xs : List ℕ) (m : ℕ) → read xs ≡ Some m → (m ≤ last) × (text m ≡ Some xs)
+  pub reads_back : (m : ℕ) → m ≤ last → (xs : List ℕ) × (text m ≡ Some xs) × (read xs ≡ Some m)
+  pub writes_back : (xs : List ℕ) (m : ℕ) → read xs ≡ Some m → (m ≤ last) × (text m ≡ Some xs)
 
 -- UTCTime, up to the last second of 2049
 abbrev pub UtcTimeInverse : Type 0

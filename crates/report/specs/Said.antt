@@ -9,67 +9,67 @@ use Rattle.algorithm.specs.Algorithms.{algorithm_code}
 use Rattle.algorithm.specs.declared.identifiers.Algorithm.{Algorithm}
 use Rattle.block.specs.Blocks.{Held}
 use Rattle.list.specs.Lists.{Listing, listing_of}
-use Rattle.report.specs.Values.{hexed, moment-text, moment-or-dash}
+use Rattle.report.specs.Values.{hexed, moment_text, moment_or_dash}
 use Rattle.report.specs.declared.said.Said.{Said}
 use Rattle.report.specs.declared.said.Said.TheVariants.{Inspected, Refused}
 
 -- The word for the input that a refusal stands in, by its number.
-abbrev pub input-word : ℕ → List ℕ
-input-word i = cond (i == 1) (codes "list") (cond (i == 2) (codes "roll") (codes "-"))
+abbrev pub input_word : ℕ → List ℕ
+input_word i = cond (i == 1) (codes "list") (cond (i == 2) (codes "roll") (codes "-"))
 
 -- The first eight octets of what is refused, or a dash.
-abbrev pub rest-text : List ℕ → List ℕ
-rest-text [] = codes "-"
-rest-text (b ∷ bs) = hexed (take 8 (b ∷ bs))
+abbrev pub rest_text : List ℕ → List ℕ
+rest_text [] = codes "-"
+rest_text (b ∷ bs) = hexed (take 8 (b ∷ bs))
 
 -- A refusal by its numbers, with the octets that stand at its place.
-abbrev pub refused-text : Refusing → List ℕ → List ℕ
-refused-text r rest = codes "refused " ++ (decimal r.number ++ (32 ∷ (input-word r.input ++ (32 ∷ (decimal r.offset ++ (32 ∷ rest-text rest))))))
+abbrev pub refused_text : Refusing → List ℕ → List ℕ
+refused_text r rest = codes "refused " ++ (decimal r.number ++ (32 ∷ (input_word r.input ++ (32 ∷ (decimal r.offset ++ (32 ∷ rest_text rest))))))
 
-abbrev pub reason-text : Option ℕ → List ℕ
-reason-text None = codes "-"
-reason-text (Some n) = decimal n
+abbrev pub reason_text : Option ℕ → List ℕ
+reason_text None = codes "-"
+reason_text (Some n) = decimal n
 
 -- One entry: a line break and two spaces come first.
-abbrev pub line-text : Line → List ℕ
-line-text e = (10 ∷ codes "  entry ") ++ (hexed e.serial.octets ++ (32 ∷ (moment-text e.date ++ (32 ∷ reason-text e.reason))))
+abbrev pub line_text : Line → List ℕ
+line_text e = (10 ∷ codes "  entry ") ++ (hexed e.serial.octets ++ (32 ∷ (moment_text e.date ++ (32 ∷ reason_text e.reason))))
 
-abbrev pub entry-text : Entry → List ℕ
-entry-text e = line-text (line_of e)
+abbrev pub entry_text : Entry → List ℕ
+entry_text e = line_text (line_of e)
 
 -- So many entries off the front of a run, in its order.
-abbrev pub first-text : Option Line → List ℕ → List ℕ
-first-text None rest = []
-first-text (Some e) rest = line-text e ++ rest
+abbrev pub first_text : Option Line → List ℕ → List ℕ
+first_text None rest = []
+first_text (Some e) rest = line_text e ++ rest
 
-unfoldable pub run-text : ℕ → Piece → List ℕ
-run-text zero c = []
-run-text (suc n) c = first-text (first_in (entry_in c)) (run-text n (rest_in c (entry_in c)))
+unfoldable pub run_text : ℕ → Piece → List ℕ
+run_text zero c = []
+run_text (suc n) c = first_text (first_in (entry_in c)) (run_text n (rest_in c (entry_in c)))
 
-abbrev pub entries-text : Option Piece → ℕ → List ℕ
-entries-text None n = []
-entries-text (Some c) n = run-text n c
+abbrev pub entries_text : Option Piece → ℕ → List ℕ
+entries_text None n = []
+entries_text (Some c) n = run_text n c
 
 -- A part's offset and length.
-abbrev pub place-text : Piece → List ℕ
-place-text p = decimal p.offset ++ (32 ∷ decimal (length p.octets))
+abbrev pub place_text : Piece → List ℕ
+place_text p = decimal p.offset ++ (32 ∷ decimal (length p.octets))
 
-abbrev pub algorithm-text : Algorithm → List ℕ
-algorithm-text a = (10 ∷ codes "  algorithm ") ++ decimal (algorithm_code a)
+abbrev pub algorithm_text : Algorithm → List ℕ
+algorithm_text a = (10 ∷ codes "  algorithm ") ++ decimal (algorithm_code a)
 
 -- The lines of the issuer, the two updates, the number and expiredCertsOnCRL.
-abbrev pub block-text : Held → List ℕ
-block-text b = (10 ∷ codes "  issuer ") ++ (place-text b.issuer ++ ((10 ∷ codes "  this_update ") ++ (moment-text b.this_update ++ ((10 ∷ codes "  next_update ") ++ (moment-text b.next_update ++ ((10 ∷ codes "  number ") ++ (hexed b.told.number.octets ++ ((10 ∷ codes "  expired_certs_on_crl ") ++ moment-or-dash b.told.expired))))))))
+abbrev pub block_text : Held → List ℕ
+block_text b = (10 ∷ codes "  issuer ") ++ (place_text b.issuer ++ ((10 ∷ codes "  this_update ") ++ (moment_text b.this_update ++ ((10 ∷ codes "  next_update ") ++ (moment_text b.next_update ++ ((10 ∷ codes "  number ") ++ (hexed b.told.number.octets ++ ((10 ∷ codes "  expired_certs_on_crl ") ++ moment_or_dash b.told.expired))))))))
 
 -- The lines of the signed block, the signature and the number of entries.
-abbrev pub signed-text : Listing → List ℕ
-signed-text l = (10 ∷ codes "  signed block ") ++ (place-text l.signed.item ++ ((10 ∷ codes "  signature ") ++ (place-text l.signature.item ++ ((10 ∷ codes "  entries ") ++ decimal l.signed.held.entries.count))))
+abbrev pub signed_text : Listing → List ℕ
+signed_text l = (10 ∷ codes "  signed block ") ++ (place_text l.signed.item ++ ((10 ∷ codes "  signature ") ++ (place_text l.signature.item ++ ((10 ∷ codes "  entries ") ++ decimal l.signed.held.entries.count))))
 
 -- All that a list says.
-unfoldable pub list-text : Listing → List ℕ
-list-text l = algorithm-text l.signed.held.algorithm ++ (block-text l.signed.held ++ (signed-text l ++ entries-text l.signed.held.entries.run l.signed.held.entries.count))
+unfoldable pub list_text : Listing → List ℕ
+list_text l = algorithm_text l.signed.held.algorithm ++ (block_text l.signed.held ++ (signed_text l ++ entries_text l.signed.held.entries.run l.signed.held.entries.count))
 
 -- What is said of a command.
-abbrev pub said-text : Said → List ℕ
-said-text (Inspected label length list) = codes "inspect " ++ (label.now ++ (codes ": " ++ (decimal length ++ (codes " octets" ++ list-text (listing_of list)))))
-said-text (Refused verb label refused) = verb.now ++ (32 ∷ (label.now ++ (codes ": " ++ refused-text (refused_of refused.refusal) refused.rest.now)))
+abbrev pub said_text : Said → List ℕ
+said_text (Inspected label length list) = codes "inspect " ++ (label.now ++ (codes ": " ++ (decimal length ++ (codes " octets" ++ list_text (listing_of list)))))
+said_text (Refused verb label refused) = verb.now ++ (32 ∷ (label.now ++ (codes ": " ++ refused_text (refused_of refused.refusal) refused.rest.now)))

@@ -5,7 +5,7 @@ ghost use Rattle.items.specs.Parts.{piece_of};
 ghost use Rattle.telling.specs.Reasons.{reason_number};
 ghost use Rattle.block.specs.Blocks.{held_of};
 ghost use Rattle.list.specs.Lists.{listing_of};
-ghost use Rattle.report.specs.Said.{algorithm-text, block-text, entry-text, entries-text, list-text, signed-text};
+ghost use Rattle.report.specs.Said.{algorithm_text, block_text, entry_text, entries_text, list_text, signed_text};
 
 use crate::values::*;
 use algorithm::identifiers::Algorithm;
@@ -21,7 +21,7 @@ use telling::reason::Reason;
 pub struct EntryLine<'a>(pub Entry<'a>);
 
 impl<'a> fmt::Display for EntryLine<'a> {
-    ghost output = { λ e. Some (entry-text e.0) };
+    ghost output = { λ e. Some (entry_text e.0) };
 
     fn fmt<W: fmt::Write>(&self, f: &mut fmt::Formatter<W>) -> fmt::Result {
         let serial = Hex(self.0.serial.octets);
@@ -45,7 +45,7 @@ fn reason_number(reason: Option<Reason>) -> Option<u8>
 pub struct EntryLines<'a>(pub Entries<'a>);
 
 impl<'a> fmt::Display for EntryLines<'a> {
-    ghost output = { λ e. Some (entries-text (mapped piece_of e.0.run) e.0.count) };
+    ghost output = { λ e. Some (entries_text (mapped piece_of e.0.run) e.0.count) };
 
     fn fmt<W: fmt::Write>(&self, f: &mut fmt::Formatter<W>) -> fmt::Result {
         let Some(mut left) = self.0.run else {
@@ -67,7 +67,7 @@ impl<'a> fmt::Display for EntryLines<'a> {
 pub struct AlgorithmLine(pub Algorithm);
 
 impl fmt::Display for AlgorithmLine {
-    ghost output = { λ a. Some (algorithm-text a.0) };
+    ghost output = { λ a. Some (algorithm_text a.0) };
 
     fn fmt<W: fmt::Write>(&self, f: &mut fmt::Formatter<W>) -> fmt::Result {
         let code = self.0.code();
@@ -80,7 +80,7 @@ impl fmt::Display for AlgorithmLine {
 pub struct BlockLines<'a>(pub Block<'a>);
 
 impl<'a> fmt::Display for BlockLines<'a> {
-    ghost output = { λ b. Some (block-text (held_of b.0)) };
+    ghost output = { λ b. Some (block_text (held_of b.0)) };
 
     fn fmt<W: fmt::Write>(&self, f: &mut fmt::Formatter<W>) -> fmt::Result {
         let issuer = Place(self.0.issuer);
@@ -100,7 +100,7 @@ impl<'a> fmt::Display for BlockLines<'a> {
 pub struct SignedLines<'a>(pub RevocationList<'a>);
 
 impl<'a> fmt::Display for SignedLines<'a> {
-    ghost output = { λ l. Some (signed-text (listing_of l.0)) };
+    ghost output = { λ l. Some (signed_text (listing_of l.0)) };
 
     fn fmt<W: fmt::Write>(&self, f: &mut fmt::Formatter<W>) -> fmt::Result {
         let block = Place(self.0.signed.item);
@@ -118,8 +118,9 @@ impl<'a> fmt::Display for SignedLines<'a> {
 pub struct ListLines<'a>(pub RevocationList<'a>);
 
 impl<'a> fmt::Display for ListLines<'a> {
-    ghost output = { λ l. Some (list-text (listing_of l.0)) };
+    ghost output = { λ l. Some (list_text (listing_of l.0)) };
 
+    #[tactic(auto, unfolding(crate::specs::Said::list_text))]
     fn fmt<W: fmt::Write>(&self, f: &mut fmt::Formatter<W>) -> fmt::Result {
         let algorithm = AlgorithmLine(self.0.signed.block.algorithm);
         let block = BlockLines(self.0.signed.block);

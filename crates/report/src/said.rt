@@ -1,7 +1,7 @@
 // What is said of one command. Every form of output is made from this enum alone, so that all of them say the same.
 ghost use Rattle.std.specs.Prelude.{◌≡◌, ◌<◌, length, take, Some, None, MatchOption};
 ghost use Rattle.refusals.specs.Refusals.{input_number, refused_of};
-ghost use Rattle.report.specs.Said.{input-word, refused-text, said-text};
+ghost use Rattle.report.specs.Said.{input_word, refused_text, said_text};
 
 use crate::lists::*;
 use crate::values::*;
@@ -21,7 +21,7 @@ const SHOWN: usize = 8;
 
 // The input that a refusal stands in.
 fn input_word(input: Input) -> &'static str
-    ensures { result.now ≡ input-word (input_number input) }
+    ensures { result.now ≡ input_word (input_number input) }
 {
     match input {
         Input::Neither => "-",
@@ -42,7 +42,7 @@ fn first_octets(rest: &[u8]) -> Option<Hex<'_>>
 }
 
 impl<'o> fmt::Display for Refused<'o> {
-    ghost output = { λ r. Some (refused-text (refused_of r.refusal) r.rest.now) };
+    ghost output = { λ r. Some (refused_text (refused_of r.refusal) r.rest.now) };
 
     fn fmt<W: fmt::Write>(&self, f: &mut fmt::Formatter<W>) -> fmt::Result {
         let number = self.refusal.ground.number();
@@ -69,7 +69,7 @@ pub enum Said<'a, 'o> {
 }
 
 impl<'a, 'o> fmt::Display for Said<'a, 'o> {
-    ghost output = { λ s. Some (said-text s) };
+    ghost output = { λ s. Some (said_text s) };
 
     fn fmt<W: fmt::Write>(&self, f: &mut fmt::Formatter<W>) -> fmt::Result {
         match *self {

@@ -1,6 +1,6 @@
 // The values that every answer is made of: octets, moments, places, and a dash for what is absent.
 ghost use Rattle.std.specs.Prelude.{◌≡◌, ℕ, ◌<◌, [], ◌∷◌, ◌++◌, length, Some, decimal};
-ghost use Rattle.report.specs.Values.{hex-digit, hexed, moment-or-dash, moment-text, or-dash};
+ghost use Rattle.report.specs.Values.{hex_digit, hexed, moment_or_dash, moment_text, or_dash};
 
 use items::item::Part;
 use moment::texts::rfc3339_text;
@@ -25,7 +25,7 @@ impl<'a> fmt::Display for Hex<'a> {
 // The hex digit of a value below 16.
 fn digit(value: u8) -> char
     requires { value < 16 }
-    ensures { result ≡ hex-digit value }
+    ensures { result ≡ hex_digit value }
 {
     if value < 10 {
         char::from(b'0' + value)
@@ -39,7 +39,7 @@ fn digit(value: u8) -> char
 pub struct Moment(pub u64);
 
 impl fmt::Display for Moment {
-    ghost output = { λ m. Some (moment-text m.0) };
+    ghost output = { λ m. Some (moment_text m.0) };
 
     fn fmt<W: fmt::Write>(&self, f: &mut fmt::Formatter<W>) -> fmt::Result {
         let seconds = self.0;
@@ -58,7 +58,7 @@ impl fmt::Display for Moment {
 pub struct MomentOrDash(pub Option<u64>);
 
 impl fmt::Display for MomentOrDash {
-    ghost output = { λ m. Some (moment-or-dash m.0) };
+    ghost output = { λ m. Some (moment_or_dash m.0) };
 
     fn fmt<W: fmt::Write>(&self, f: &mut fmt::Formatter<W>) -> fmt::Result {
         match self.0 {
@@ -90,7 +90,7 @@ impl<'a> fmt::Display for Place<'a> {
 pub struct OrDash<T>(pub Option<T>);
 
 impl<T: fmt::Display> fmt::Display for OrDash<T> {
-    ghost output = { λ x. or-dash T.Display.output x.0 };
+    ghost output = { λ x. or_dash T.Display.output x.0 };
 
     fn fmt<W: fmt::Write>(&self, f: &mut fmt::Formatter<W>) -> fmt::Result {
         match &self.0 {

@@ -2,18 +2,18 @@
 use Rattle.std.proofs.Common.{◌≡◌, ℕ, ◌+◌, ◌<◌, ◌≤◌, true, ◌⊎◌, List, [], ◌∷◌, ◌++◌, length, sym, refl, ap, ◌∙◌, subst, inl, inr, ⊎_elim, append_assoc, arith}
 use Rattle.std.proofs.lemmas.List.{append-nil, get_or_append_left, get_or_push, get_or_past, length_push}
 use Rattle.std.proofs.lemmas.Bool.{cases_order, cases_lt, cond_both, eq-eqb}
-use Rattle.ruling.specs.Cases.{Final, valid, revoked, Says, silent, waits, rules, Told, no-list, waiting, final, contradicted, row}
+use Rattle.ruling.specs.Cases.{Final, valid, revoked, Says, silent, waits, rules, Told, no_list, waiting, final, contradicted, row}
 use Rattle.ruling.specs.Answers.{same, moved, heard, answered}
-use Rattle.ruling.specs.Law.{First, Clash, Drawn, Further, ruling-at}
+use Rattle.ruling.specs.Law.{First, Clash, Drawn, Further, ruling_at}
 
 -- one more list never moves an answer back
 pub moved-further : (k : ℕ) (r : Says) (s : Told) → Further s (moved k r s)
 moved-further k silent s = inl refl
-moved-further k waits no-list = inr (omega arith)
+moved-further k waits no_list = inr (omega arith)
 moved-further k waits waiting = inl refl
 moved-further k waits (final v n) = inl refl
 moved-further k waits (contradicted n m) = inl refl
-moved-further k (rules w) no-list = inr (omega arith)
+moved-further k (rules w) no_list = inr (omega arith)
 moved-further k (rules w) waiting = inr (omega arith)
 moved-further k (rules w) (final v n) = cond_both (same v w) (final v n) (contradicted n k) (λ t. Further (final v n) t) (λ e. inl refl) (λ e. inr (omega arith))
 moved-further k (rules w) (contradicted n m) = inl refl
@@ -36,7 +36,7 @@ heard-append k (x ∷ xs) ys s = heard-append (k + 1) xs ys (moved k x s) ∙ ap
 -- an answer from more lists is the same or further along the row
 pub more-further : (xs ys : List Says) → Further (answered xs) (answered (xs ++ ys))
 more-further xs ys =
-    subst (λ (t : Told). Further (answered xs) t) (sym (heard-append 0 xs ys no-list)) (heard-further (0 + length xs) ys (answered xs))
+    subst (λ (t : Told). Further (answered xs) t) (sym (heard-append 0 xs ys no_list)) (heard-further (0 + length xs) ys (answered xs))
 
 pub no-rule : (w : Final) → silent ≡ rules w → ⊥
 no-rule w e = let z : ◌≡◌ {A = ℕ} 0 1 = cc in omega arith
@@ -100,11 +100,11 @@ module _ (f g : ℕ → Says) (n : ℕ) (r : Says) (past : (i : ℕ) → n ≤ i
       let F : (ℕ → Says) → Type 0 = λ u. Drawn u a in
       let p : f ≡ g = λ i k. all-like e k i in
       subst F p h
-  step waits e no-list h = (λ i w k. no-rule w (sym (h i) ∙ quiet (λ w p. no-wait w (sym e ∙ p)) i w k), (n, at ∙ e))
+  step waits e no_list h = (λ i w k. no-rule w (sym (h i) ∙ quiet (λ w p. no-wait w (sym e ∙ p)) i w k), (n, at ∙ e))
   step waits e waiting h = (λ i w k. h.0 i w (quiet (λ w p. no-wait w (sym e ∙ p)) i w k), (h.1.0, forth-wait h.1.0 h.1.1))
   step waits e (final v k) h = (first_on k v h.0, λ i w p. h.1 i w (quiet (λ w p. no-wait w (sym e ∙ p)) i w p))
   step waits e (contradicted k m) h = clash-on k m h
-  step (rules w) e no-list h = (
+  step (rules w) e no_list h = (
     (at ∙ e, λ i u lt p. no-rule u (sym (h i) ∙ earlier i u lt p)),
     λ i u p. ⊎_elim (λ q. absurd (no-rule u (sym (h i) ∙ q))) (λ q. let b = q.1 in let x = same_refl w in let y : u ≡ w = cc in cc) (back i u p),
   )
@@ -127,21 +127,21 @@ module _ (f g : ℕ → Says) (n : ℕ) (r : Says) (past : (i : ℕ) → n ≤ i
       })
   step (rules w) e (contradicted k m) h = clash-on k m h
 
-pub drawn-push : (rs : List Says) (r : Says) (s : Told) → Drawn (ruling-at rs) s → Drawn (ruling-at (rs ++ r ∷ [])) (moved (length rs) r s)
+pub drawn-push : (rs : List Says) (r : Says) (s : Told) → Drawn (ruling_at rs) s → Drawn (ruling_at (rs ++ r ∷ [])) (moved (length rs) r s)
 drawn-push rs r s h =
-    step (ruling-at rs) (ruling-at (rs ++ r ∷ [])) (length rs) r (λ i le. get_or_past rs i silent le) (λ i lt. get_or_append_left rs (r ∷ []) silent i lt)
+    step (ruling_at rs) (ruling_at (rs ++ r ∷ [])) (length rs) r (λ i le. get_or_past rs i silent le) (λ i lt. get_or_append_left rs (r ∷ []) silent i lt)
     (get_or_push rs r silent (length rs) refl) (λ i lt. get_or_past (rs ++ r ∷ []) i silent (let e = length_push rs r in omega arith))
     r refl s h
 
-pub drawn-on : (before rs : List Says) (s : Told) → Drawn (ruling-at before) s → Drawn (ruling-at (before ++ rs)) (heard (length before) rs s)
+pub drawn-on : (before rs : List Says) (s : Told) → Drawn (ruling_at before) s → Drawn (ruling_at (before ++ rs)) (heard (length before) rs s)
 unfolding heard
-drawn-on before [] s h = subst (λ (xs : List Says). Drawn (ruling-at xs) s) (sym (append-nil before)) h
+drawn-on before [] s h = subst (λ (xs : List Says). Drawn (ruling_at xs) s) (sym (append-nil before)) h
 drawn-on before (r ∷ rs) s h =
     let k = drawn-on (before ++ r ∷ []) rs (moved (length before) r s) (drawn-push before r s h) in
-    let F : List Says → Type 0 = λ xs. Drawn (ruling-at xs) (heard (length before + 1) rs (moved (length before) r s)) in
-    let G : ℕ → Type 0 = λ n. Drawn (ruling-at ((before ++ r ∷ []) ++ rs)) (heard n rs (moved (length before) r s)) in
+    let F : List Says → Type 0 = λ xs. Drawn (ruling_at xs) (heard (length before + 1) rs (moved (length before) r s)) in
+    let G : ℕ → Type 0 = λ n. Drawn (ruling_at ((before ++ r ∷ []) ++ rs)) (heard n rs (moved (length before) r s)) in
     subst F (append_assoc before (r ∷ []) rs) (subst G (length_push before r) k)
 
 -- what is heard from the first list on is the answer drawn
-pub drawn-heard : (rs : List Says) → Drawn (ruling-at rs) (answered rs)
-drawn-heard rs = drawn-on [] rs no-list (λ i. refl)
+pub drawn-heard : (rs : List Says) → Drawn (ruling_at rs) (answered rs)
+drawn-heard rs = drawn-on [] rs no_list (λ i. refl)

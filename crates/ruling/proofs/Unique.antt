@@ -1,7 +1,7 @@
 -- No two answers are drawn from the same rulings.
 use Rattle.std.proofs.Common.{◌≡◌, ℕ, ◌<◌, sym, refl, ap, ◌∙◌, ⊎_elim}
 use Rattle.std.proofs.lemmas.Bool.{cases_order, both_ways}
-use Rattle.ruling.specs.Cases.{Final, Says, rules, Told, no-list, waiting, final, contradicted}
+use Rattle.ruling.specs.Cases.{Final, Says, rules, Told, no_list, waiting, final, contradicted}
 use Rattle.ruling.specs.Answers.{same}
 use Rattle.ruling.specs.Law.{First, AllSame, Clash, Drawn}
 use Rattle.ruling.proofs.Rulings.{no-rule, silent-wait}
@@ -26,22 +26,22 @@ module _ (f : ℕ → Says) where
       both_ways (same b.v a.w) (ap (λ y. same y a.w) (sym x) ∙ a.differ) (b.between j a.w h a.other)
 
   pub drawn-one : (s t : Told) → Drawn f s → Drawn f t → s ≡ t
-  drawn-one no-list no-list a b = refl
-  drawn-one no-list waiting a b = absurd (silent-wait (sym (a b.1.0) ∙ b.1.1))
-  drawn-one no-list (final w m) a b = absurd (no-rule w (sym (a m) ∙ b.0.0))
-  drawn-one no-list (contradicted m k) a b = absurd (no-rule b.w (sym (a k) ∙ b.other))
-  drawn-one waiting no-list a b = absurd (silent-wait (sym (b a.1.0) ∙ a.1.1))
+  drawn-one no_list no_list a b = refl
+  drawn-one no_list waiting a b = absurd (silent-wait (sym (a b.1.0) ∙ b.1.1))
+  drawn-one no_list (final w m) a b = absurd (no-rule w (sym (a m) ∙ b.0.0))
+  drawn-one no_list (contradicted m k) a b = absurd (no-rule b.w (sym (a k) ∙ b.other))
+  drawn-one waiting no_list a b = absurd (silent-wait (sym (b a.1.0) ∙ a.1.1))
   drawn-one waiting waiting a b = refl
   drawn-one waiting (final w m) a b = absurd (a.0 m w b.0.0)
   drawn-one waiting (contradicted m k) a b = absurd (a.0 k b.w b.other)
-  drawn-one (final v n) no-list a b = absurd (no-rule v (sym (b n) ∙ a.0.0))
+  drawn-one (final v n) no_list a b = absurd (no-rule v (sym (b n) ∙ a.0.0))
   drawn-one (final v n) waiting a b = absurd (b.0 n v a.0.0)
   drawn-one (final v n) (final w m) a b =
       let e = first_one n m v w a.0 b.0 in
       let x = final-one n m v w a.0 b.0 in
       cc
   drawn-one (final v n) (contradicted m k) a b = absurd (no-clash n m k v a.0 a.1 b)
-  drawn-one (contradicted n j) no-list a b = absurd (no-rule a.w (sym (b j) ∙ a.other))
+  drawn-one (contradicted n j) no_list a b = absurd (no-rule a.w (sym (b j) ∙ a.other))
   drawn-one (contradicted n j) waiting a b = absurd (b.0 j a.w a.other)
   drawn-one (contradicted n j) (final w m) a b = absurd (no-clash m n j w b.0 b.1 a)
   drawn-one (contradicted n j) (contradicted m k) a b =

@@ -81,14 +81,14 @@ ruling_number (rules (revoked d r)) = 3
 
 -- what is told over all lists: a final ruling with its list's number, or the numbers of two lists that contradict each other
 pub data Told : Type 0 where
-  no-list : Told
+  no_list : Told
   waiting : Told
   final : Final → ℕ → Told
   contradicted : ℕ → ℕ → Told
 
 -- each answer, as it is told
 abbrev pub answer_of : Answer → Told
-answer_of NoList = no-list
+answer_of NoList = no_list
 answer_of AnswerWaiting = waiting
 answer_of (AnswerValid n) = final valid n
 answer_of (AnswerRevoked n d r) = final (revoked d (reason_of r)) n
@@ -96,7 +96,7 @@ answer_of (Contradicted n m) = contradicted n m
 
 -- the number of an answer, in the order of the row; valid and revoked stand at one place of it
 abbrev pub answer_number : Told → ℕ
-answer_number no-list = 0
+answer_number no_list = 0
 answer_number waiting = 1
 answer_number (final valid n) = 2
 answer_number (final (revoked d r) n) = 3
@@ -104,7 +104,7 @@ answer_number (contradicted n m) = 4
 
 -- the row: how far along an answer is
 abbrev pub row : Told → ℕ
-row no-list = 0
+row no_list = 0
 row waiting = 1
 row (final v n) = 2
 row (contradicted n m) = 3

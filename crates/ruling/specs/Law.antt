@@ -1,12 +1,12 @@
 -- The laws of answers, over any number of lists and any rulings.
 use Rattle.std.specs.Prelude.{◌≡◌, ℕ, ◌<◌, true, false, ◌⊎◌, List, ◌++◌, Some, None, Option, ◌≢◌, slice_index_or}
-use Rattle.ruling.specs.Cases.{Final, valid, revoked, Says, silent, waits, rules, Told, no-list, waiting, final, contradicted, row}
+use Rattle.ruling.specs.Cases.{Final, valid, revoked, Says, silent, waits, rules, Told, no_list, waiting, final, contradicted, row}
 use Rattle.ruling.specs.Answers.{same, answered}
 use Rattle.ruling.specs.Table.{Only}
 
 -- what list i says, and nothing past the last list
-abbrev pub ruling-at : List Says → ℕ → Says
-ruling-at rs i = slice_index_or rs i silent
+abbrev pub ruling_at : List Says → ℕ → Says
+ruling_at rs i = slice_index_or rs i silent
 
 -- Below, f i is what list i says.
 -- no list rules finally
@@ -33,14 +33,14 @@ pub record Clash (f : ℕ → Says) (n m : ℕ) : Type 0 where
 
 -- the answer that the rulings give, in the order of the lists
 abbrev pub Drawn : (ℕ → Says) → Told → Type 0
-Drawn f no-list = (i : ℕ) → f i ≡ silent
+Drawn f no_list = (i : ℕ) → f i ≡ silent
 Drawn f waiting = NoFinal f × ((i : ℕ) × (f i ≡ waits))
 Drawn f (final v n) = First f n v × AllSame f v
 Drawn f (contradicted n m) = Clash f n m
 
 -- over any rulings, the answer is the one drawn from them, and no other is
 abbrev pub DrawnAndNoOther : Type 0
-DrawnAndNoOther = (rs : List Says) → Only (Drawn (ruling-at rs)) (answered rs)
+DrawnAndNoOther = (rs : List Says) → Only (Drawn (ruling_at rs)) (answered rs)
 
 -- each where the other is
 abbrev pub Exactly : Type 0 → Type 0 → Type 0
@@ -50,13 +50,13 @@ Exactly P Q = (P → Q) × (Q → P)
 abbrev pub ValidExactly : Type 0
 ValidExactly = (rs : List Says) →
     Exactly ((n : ℕ) × (answered rs ≡ final valid n))
-    ((i : ℕ) × (ruling-at rs i ≡ rules valid) × AllSame (ruling-at rs) valid)
+    ((i : ℕ) × (ruling_at rs i ≡ rules valid) × AllSame (ruling_at rs) valid)
 
 -- revoked with the date d exactly when some list rules so and none rules finally otherwise
 abbrev pub RevokedExactly : Type 0
 RevokedExactly = (rs : List Says) (d : ℕ) →
     Exactly ((r : Option ℕ) × (n : ℕ) × (answered rs ≡ final (revoked d r) n))
-    ((r : Option ℕ) × (i : ℕ) × (ruling-at rs i ≡ rules (revoked d r)) × AllSame (ruling-at rs) (revoked d r))
+    ((r : Option ℕ) × (i : ℕ) × (ruling_at rs i ≡ rules (revoked d r)) × AllSame (ruling_at rs) (revoked d r))
 
 -- the same answer in every value, or one further along the row
 abbrev pub Further : Told → Told → Type 0

@@ -1,17 +1,17 @@
 // The words of a line: what stands between spaces and tabs, and nothing else parts words.
 ghost use Rattle.std.specs.Prelude.{◌≡◌, [], ◌∷◌, MatchOption};
 ghost use Rattle.tokens.specs.Runs.{run};
-ghost use Rattle.tokens.specs.Words.{is-blank, in-word, words};
+ghost use Rattle.tokens.specs.Words.{is_blank, in_word, words};
 
 fn is_blank(b: u8) -> bool
-    ensures { result ≡ is-blank b }
+    ensures { result ≡ is_blank b }
 {
     b == b' ' || b == b'\t'
 }
 
 // How many blanks stand first.
 fn blanks(line: &[u8]) -> usize
-    ensures { result ≡ run is-blank line.now }
+    ensures { result ≡ run is_blank line.now }
 {
     for (i, b) in line.iter().enumerate() {
         if !is_blank(*b) {
@@ -23,7 +23,7 @@ fn blanks(line: &[u8]) -> usize
 
 // How many octets stand before the first blank.
 fn word_length(line: &[u8]) -> usize
-    ensures { result ≡ run in-word line.now }
+    ensures { result ≡ run in_word line.now }
 {
     for (i, b) in line.iter().enumerate() {
         if is_blank(*b) {

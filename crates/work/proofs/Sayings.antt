@@ -6,7 +6,7 @@ use Rattle.refusals.specs.declared.grounds.Input.TheVariants.{Neither, List as I
 use Rattle.refusals.specs.Refusals.{input_number}
 use Rattle.refusals.specs.Shows.{shown}
 use Rattle.workfile.specs.declared.commands.Command.{Command}
-use Rattle.work.specs.Answers.{command-text, all-text}
+use Rattle.work.specs.Answers.{command_text, all_text}
 
 -- what is shown of a refusal, where only a list was given
 pub shown_rest : (i : Input) (p : ℕ) (octets : List ℕ) → shown i p octets [] ≡ cond (eqb (input_number i) 1) (drop p octets) []
@@ -14,15 +14,15 @@ shown_rest Neither p octets = refl
 shown_rest InList p octets = refl
 shown_rest Roll p octets = drop_all p [] (omega arith)
 
-pub all_none : all-text [] ≡ []
-unfolding all-text
+pub all_none : all_text [] ≡ []
+unfolding all_text
 all_none = refl
 
-pub all_append : (xs ys : List Command) → all-text (xs ++ ys) ≡ all-text xs ++ all-text ys
-unfolding all-text
+pub all_append : (xs ys : List Command) → all_text (xs ++ ys) ≡ all_text xs ++ all_text ys
+unfolding all_text
 all_append [] ys = refl
-all_append (x ∷ xs) ys = ap (λ z. command-text x ++ z) (all_append xs ys) ∙ sym (append_assoc (command-text x) (all-text xs) (all-text ys))
+all_append (x ∷ xs) ys = ap (λ z. command_text x ++ z) (all_append xs ys) ∙ sym (append_assoc (command_text x) (all_text xs) (all_text ys))
 
-pub all_one : (x : Command) → all-text (x ∷ []) ≡ command-text x
-unfolding all-text
-all_one x = append-nil (command-text x)
+pub all_one : (x : Command) → all_text (x ∷ []) ≡ command_text x
+unfolding all_text
+all_one x = append-nil (command_text x)

@@ -1,7 +1,7 @@
 // Carrying out a work file that has no faulty line: values in, text out.
 ghost use Rattle.std.specs.Prelude.{◌≡◌, ◌++◌, IfOk, string_bytes, OnOk};
-ghost use Rattle.report.specs.Said.{said-text};
-ghost use Rattle.work.specs.Answers.{inspect-text, command-text, all-text};
+ghost use Rattle.report.specs.Said.{said_text};
+ghost use Rattle.work.specs.Answers.{inspect_text, command_text, all_text};
 
 use crl::read::read_list;
 use refusals::show::show;
@@ -13,7 +13,7 @@ use workfile::commands::Command;
 
 // What is said of a list that is read by itself.
 pub fn inspect<'a, 'o>(label: &'a str, octets: &'o [u8]) -> Said<'a, 'o>
-    ensures { said-text result ≡ inspect-text label.now octets.now }
+    ensures { said_text result ≡ inspect_text label.now octets.now }
 {
     match read_list(octets) {
         Ok(list) => Said::Inspected {
@@ -34,7 +34,7 @@ pub fn inspect<'a, 'o>(label: &'a str, octets: &'o [u8]) -> Said<'a, 'o>
 
 // Adds what is said of a command to the text.
 fn say(out: &mut String, command: &Command) -> fmt::Result
-    ensures { OnOk result (string_bytes out.new ≡ string_bytes out.old ++ command-text command.now) }
+    ensures { OnOk result (string_bytes out.new ≡ string_bytes out.old ++ command_text command.now) }
 {
     match command {
         Command::Inspect { list, label } => {
@@ -46,7 +46,7 @@ fn say(out: &mut String, command: &Command) -> fmt::Result
 
 // The text that a work file's commands print, in their order. It is made whole, so that it can be written at once.
 pub fn carry_out(heap: Global, commands: &[Command]) -> Result<String, fmt::Error>
-    ensures { IfOk result (λ s. string_bytes s ≡ all-text commands.now) }
+    ensures { IfOk result (λ s. string_bytes s ≡ all_text commands.now) }
 {
     let mut out = String::new(heap);
     for command in commands {

@@ -1,7 +1,7 @@
 -- The worked cases: ten rulings and three moments. Assumes nothing.
 use Rattle.std.specs.Prelude.{◌≡◌, ℕ, List, [], ◌∷◌, map, Some, None, codes, Option}
 use Rattle.moment.specs.Texts.{utc_read}
-use Rattle.ruling.specs.Cases.{Asked, Entry, Says, Told, valid, revoked, no-list, waiting, final, contradicted}
+use Rattle.ruling.specs.Cases.{Asked, Entry, Says, Told, valid, revoked, no_list, waiting, final, contradicted}
 use Rattle.ruling.specs.Rule.{ruled_by}
 use Rattle.ruling.specs.Answers.{answered}
 
@@ -46,15 +46,15 @@ pub data Case : Type 0 where
 -- the ten worked rulings and the three worked moments
 abbrev pub cases : List Case
 cases =
-    asks (listing 100 None None ∷ []) 150 no-list
+    asks (listing 100 None None ∷ []) 150 no_list
     ∷ asks (listing 101 None None ∷ []) 92 waiting
     ∷ asks (listing 1000 None (Some 500) ∷ []) 500 (final (revoked 500 None) 0)
     ∷ asks (listing 1001 (Some 1000) None ∷ []) 100 (final valid 0)
-    ∷ asks (listing 1001 (Some 1001) None ∷ []) 100 no-list
+    ∷ asks (listing 1001 (Some 1001) None ∷ []) 100 no_list
     ∷ asks (listing 200 None None ∷ listing 300 None (Some 150) ∷ []) 149 (final valid 0)
     ∷ asks (listing 101 None None ∷ []) 91 (final valid 0)
     ∷ asks (listing 1000 None (Some 500) ∷ []) 499 (final valid 0)
-    ∷ asks (listing 1001 None None ∷ []) 100 no-list
+    ∷ asks (listing 1001 None None ∷ []) 100 no_list
     ∷ asks (listing 200 None None ∷ listing 300 None (Some 150) ∷ []) 150 (contradicted 0 1)
     ∷ reads (codes "500101000000Z") (Some 0)
     ∷ reads (codes "491231235959Z") (Some 3155759999)

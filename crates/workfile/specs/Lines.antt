@@ -74,8 +74,8 @@ NotInspects ws NotHex = (digits : List ℕ) × (more : List (List ℕ)) × (ws �
 NotInspects ws (Unreadable e) = (word : List ℕ) × (more : List (List ℕ)) × (ws ≡ word ∷ more) × Unmarked word
 NotInspects ws Memory = Unit {0}
 
-abbrev pub verb-word : Verb → List ℕ
-verb-word verb.Inspect = codes "inspect"
+abbrev pub verb_word : Verb → List ℕ
+verb_word verb.Inspect = codes "inspect"
 
 -- The command that the words of a line ask for.
 abbrev pub Asks : List (List ℕ) → Command → Type 0
@@ -83,4 +83,4 @@ Asks ws command = (more : List (List ℕ)) × (ws ≡ codes "inspect" ∷ more) 
 
 -- What is wrong with the words of a line that is no command.
 abbrev pub Wrong : List (List ℕ) → Fault → Type 0
-Wrong ws fault = (word : List ℕ) × (more : List (List ℕ)) × (ws ≡ word ∷ more) × (((fault ≡ NoCommand) × (Silent ws → ⊥) × ((v : Verb) → word ≢ verb-word v)) ⊎ ((word ≡ codes "inspect") × NotInspects more fault))
+Wrong ws fault = (word : List ℕ) × (more : List (List ℕ)) × (ws ≡ word ∷ more) × (((fault ≡ NoCommand) × (Silent ws → ⊥) × ((v : Verb) → word ≢ verb_word v)) ⊎ ((word ≡ codes "inspect") × NotInspects more fault))

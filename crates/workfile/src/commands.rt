@@ -2,7 +2,7 @@
 ghost use Rattle.std.specs.Prelude.{◌≡◌, ℕ, ◌<◌, List, [], ◌∷◌, length, IsUtf8, MatchOption, MatchResult, ◌≢◌};
 ghost use Rattle.tokens.specs.Words.{words as words_of};
 ghost use Rattle.workfile.specs.declared.faults.Fault.TheVariants.{MissingWord, ExtraWord, NotText};
-ghost use Rattle.workfile.specs.Lines.{Asks, Given, Inspects, Labelled, Loaded, NotInspects, Silent, Unloaded, Wrong, verb-word};
+ghost use Rattle.workfile.specs.Lines.{Asks, Given, Inspects, Labelled, Loaded, NotInspects, Silent, Unloaded, Wrong, verb_word};
 
 use crate::faults::*;
 use std::alloc::Global;
@@ -31,7 +31,7 @@ enum Verb {
 }
 
 fn read_verb(word: &[u8]) -> Option<Verb>
-    ensures { MatchOption result ((v : Verb) → word.now ≢ verb-word v) (λ v. word.now ≡ verb-word v) }
+    ensures { MatchOption result ((v : Verb) → word.now ≢ verb_word v) (λ v. word.now ≡ verb_word v) }
 {
     let Ok(text) = std::str::from_utf8(word) else {
         return None;

@@ -1,7 +1,7 @@
 // What can be wrong with a line of a work file.
 ghost use Rattle.std.specs.Prelude.{◌≡◌};
 ghost use Rattle.workfile.specs.declared.faults.Fault.TheVariants.{Memory};
-ghost use Rattle.workfile.specs.Messages.{fault-text};
+ghost use Rattle.workfile.specs.Messages.{fault_text};
 
 use std::alloc::{AllocError, AllocFailed};
 use std::{fmt, io};
@@ -39,7 +39,7 @@ impl<T: Drop> From<AllocFailed<T>> for Fault {
 }
 
 impl fmt::Display for Fault {
-    ghost output = { fault-text };
+    ghost output = { fault_text };
 
     fn fmt<W: fmt::Write>(&self, f: &mut fmt::Formatter<W>) -> fmt::Result {
         match self {

@@ -3,7 +3,7 @@ ghost use Rattle.std.specs.Prelude.{ℕ, IfOk, OnOk};
 ghost use Rattle.tokens.specs.Lines.{lines as lines_of};
 ghost use Rattle.tokens.specs.Words.{words as words_of};
 ghost use Rattle.workfile.specs.Files.{Adds, Found};
-ghost use Rattle.workfile.specs.Messages.{flaw-text};
+ghost use Rattle.workfile.specs.Messages.{flaw_text};
 
 use crate::commands::*;
 use crate::faults::*;
@@ -20,7 +20,7 @@ pub struct Flaw {
 }
 
 impl fmt::Display for Flaw {
-    ghost output = { λ f. flaw-text f.line f.fault };
+    ghost output = { λ f. flaw_text f.line f.fault };
 
     fn fmt<W: fmt::Write>(&self, f: &mut fmt::Formatter<W>) -> fmt::Result {
         let line = self.line;

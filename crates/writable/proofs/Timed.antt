@@ -73,11 +73,11 @@ pub time-built : (p m : ℕ) → m ≤ 254033452799 → IsTime p (time_octets m)
 time-built p m h =
     elim (cases_lt m 3155760000) [
       | inl a ↦
-          let r = utc-inverse.reads-back m (omega arith) in
+          let r = utc-inverse.reads_back m (omega arith) in
           let l = utc-length m r.0 r.1 in
           inl (within p r.0, subst (λ w. Tagged 23 p w (within p r.0)) (sym (utc-octets m r.0 r.1)) (items-written 23 p r.0 refl refl (omega arith)), (a, r.1))
       | inr a ↦
-          let r = general-inverse.reads-back m h in
+          let r = general-inverse.reads_back m h in
           let l = general-length m r.0 r.1 in
           inr (within p r.0, subst (λ w. Tagged 24 p w (within p r.0)) (sym (general-octets m r.0 (late-utc m a) r.1)) (items-written 24 p r.0 refl refl (omega arith)), (a, h, r.1))
     ]

@@ -1,20 +1,20 @@
 use Rattle.std.proofs.Common.{arith}
 use Rattle.std.proofs.lemmas.Bool.Decides.{nat_tests}
 use Rattle.tokens.proofs.Scans.{run_more, run-all}
-use Rattle.tokens.specs.Words.{is-blank}
+use Rattle.tokens.specs.Words.{is_blank}
 use Rattle.tokens.proofs.words.blanks.Goals as goal
 
 pub returns-then-not-is_blank : goal.returns-then-not-is_blank
 returns-then-not-is_blank c =
-    let e = run_more is-blank c.args.line.now c.loop-i.i c.loop-i-test.true in
+    let e = run_more is_blank c.args.line.now c.loop-i.i c.loop-i-test.true in
     grind (arith, nat_tests)
 
 pub loop-i-preserved : goal.loop-i-preserved
 loop-i-preserved c =
-    let e = run_more is-blank c.args.line.now c.loop-i.i c.loop-i-test.true in
+    let e = run_more is_blank c.args.line.now c.loop-i.i c.loop-i-test.true in
     grind (arith, nat_tests)
 
 pub returns : goal.returns
 returns c =
-    let e = run-all is-blank c.args.line.now c.loop-i.i c.loop-i-test.false in
+    let e = run-all is_blank c.args.line.now c.loop-i.i c.loop-i-test.false in
     grind (arith, nat_tests)

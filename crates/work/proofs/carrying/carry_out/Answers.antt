@@ -1,6 +1,6 @@
 use Rattle.std.proofs.Common.{◌≡◌, ◌+◌, [], ◌∷◌, ◌++◌, take, sym, refl, ap, ◌∙◌, subst, arith}
 use Rattle.std.proofs.lemmas.List.{take_more, take_all}
-use Rattle.work.specs.Answers.{command-text, all-text}
+use Rattle.work.specs.Answers.{command_text, all_text}
 use Rattle.work.proofs.Sayings.{all_none, all_append, all_one}
 use Rattle.work.proofs.carrying.carry_out.Goals as goal
 
@@ -14,7 +14,7 @@ loop-command-preserved c =
     let x = c.command-item.result in
     let s = c.in_ok-say.ensures in
     let m : take (i + 1) xs ≡ take i xs ++ (x ∷ []) = take_more xs i x c.loop-command-test.true ∙ ap (λ y. take i xs ++ (y ∷ [])) (sym c.command-item.is) in
-    s ∙ ap (λ z. z ++ command-text x) c.loop-command.invariant ∙ ap (λ z. all-text (take i xs) ++ z) (sym (all_one x)) ∙ sym (all_append (take i xs) (x ∷ [])) ∙ ap all-text (sym m)
+    s ∙ ap (λ z. z ++ command_text x) c.loop-command.invariant ∙ ap (λ z. all_text (take i xs) ++ z) (sym (all_one x)) ∙ sym (all_append (take i xs) (x ∷ [])) ∙ ap all_text (sym m)
 
 pub returns : goal.returns
-returns c = c.loop-command.invariant ∙ ap all-text (take_all c.loop-command.command-index c.args.commands.now c.loop-command-test.false)
+returns c = c.loop-command.invariant ∙ ap all_text (take_all c.loop-command.command-index c.args.commands.now c.loop-command-test.false)

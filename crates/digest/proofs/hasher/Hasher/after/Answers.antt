@@ -14,12 +14,12 @@ returns-then-part-room c = λ m h.
     let same : s.total % 64 ≡ length m % 64 = omega arith in
     let few : length m % 64 + length part < 64 = omega arith in
     record {
-      state-is = h.state-is ∙ small-state m part s.buffer few;
-      rest-is =
+      state_is = h.state_is ∙ small-state m part s.buffer few;
+      rest_is =
           ap (take (length (m ++ part) % 64))
           (c.over-buffer.ensures ∙ ap (λ (j : ℕ). take j s.buffer ++ (part ++ drop (s.total % 64 + length part) s.buffer)) same)
-          ∙ small-rest m part s.buffer few (drop (s.total % 64 + length part) s.buffer) h.rest-is;
-      total-is = total-more m part s.total h.total-is;
+          ∙ small-rest m part s.buffer few (drop (s.total % 64 + length part) s.buffer) h.rest_is;
+      total_is = total-more m part s.total h.total_is;
     }
 
 pub returns : goal.returns
@@ -37,11 +37,11 @@ returns c = λ m h.
     let er : r ≡ drop room part = take_rest part room in
     let lb : length s.buffer ≡ 64 = search rules in
     record {
-      state-is =
+      state_is =
           c.absorb_blocks-state.ensures ∙ ap (λ (v : List ℕ). absorbed (length r / 64) v r) c.compress.ensures
-          ∙ large-state m part s.buffer f r filled room same refl enough ef er h.rest-is lb s.state c.over-block.result h.state-is c.over-block.ensures;
-      rest-is =
+          ∙ large-state m part s.buffer f r filled room same refl enough ef er h.rest_is lb s.state c.over-block.result h.state_is c.over-block.ensures;
+      rest_is =
           ap (take (length (m ++ part) % 64)) (c.over-buffer-2.ensures ∙ ap (λ (t : List ℕ). t ++ drop (0 + length (take (length r - at) (drop at r))) s.buffer) (take_rest r at))
-          ∙ large-rest m part s.buffer f r filled room same refl enough ef er h.rest-is lb (drop (0 + length (take (length r - at) (drop at r))) s.buffer);
-      total-is = total-more m part s.total h.total-is;
+          ∙ large-rest m part s.buffer f r filled room same refl enough ef er h.rest_is lb (drop (0 + length (take (length r - at) (drop at r))) s.buffer);
+      total_is = total-more m part s.total h.total_is;
     }

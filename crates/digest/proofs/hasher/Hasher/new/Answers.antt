@@ -4,4 +4,4 @@ use Rattle.digest.proofs.hasher.Hasher.new.Goals as goal
 
 pub returns : goal.returns
 unfolding absorbed
-returns c = record { state-is = refl; rest-is = refl; total-is = refl }
+returns c = record { state_is = refl; rest_is = refl; total_is = refl }

@@ -1,14 +1,14 @@
 use Rattle.std.proofs.Common.{◌<◌, length, take, drop, ap, ◌∙◌, arith, true-eqb, false-eqb}
-use Rattle.tokens.specs.Words.{is-blank, in-word}
+use Rattle.tokens.specs.Words.{is_blank, in_word}
 use Rattle.tokens.proofs.Scans.{run-within}
 use Rattle.tokens.proofs.Split.{no-word-left, next-word-is}
 use Rattle.tokens.proofs.words.Words.next_word.Goals as goal
 
 pub split_at-requires : goal.split_at-requires
-split_at-requires c = omega (arith, run-within is-blank c.args.self.now.rest.now, c.blanks.ensures)
+split_at-requires c = omega (arith, run-within is_blank c.args.self.now.rest.now, c.blanks.ensures)
 
 pub split_at-requires-2 : goal.split_at-requires-2
-split_at-requires-2 c = omega (arith, run-within in-word c.split_at.result.1.now, c.word_length.ensures)
+split_at-requires-2 c = omega (arith, run-within in_word c.split_at.result.1.now, c.word_length.ensures)
 
 pub returns-then-is_empty : goal.returns-then-is_empty
 returns-then-is_empty c =
