@@ -42,7 +42,7 @@ line-text list-text place-text reason-text refused-text rest-text run-text said-
 moment-text or-dash no-list ruling-at in-line in-word is-blank all-text answer-text command-text inspect-text verb-word
 fault-text flaw-text""".split()
 STAYS = {"lB", "lC", "lD", "cases_Bool"}
-WORD = re.compile(r"[A-Za-z_][\w]*")
+WORD = re.compile(r"\"[^\"\n]*\"|[A-Za-z_][\w]*")
 CAMEL = re.compile(r"[a-z][a-z0-9_]*[A-Z]\w*\Z")
 GHOST = re.compile(r"(?:ghost\s+use\s[^;]*;|ghost\s+\w+\s*[:=]\s*\{)|(?:requires|ensures)\*?(?:\s+\w+)?\s*\{")
 

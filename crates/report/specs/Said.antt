@@ -59,7 +59,7 @@ algorithm_text a = (10 ∷ codes "  algorithm ") ++ decimal (algorithm_code a)
 
 -- The lines of the issuer, the two updates, the number and expiredCertsOnCRL.
 abbrev pub block_text : Held → List ℕ
-block_text b = (10 ∷ codes "  issuer ") ++ (place_text b.issuer ++ ((10 ∷ codes "  this_update ") ++ (moment_text b.this_update ++ ((10 ∷ codes "  next_update ") ++ (moment_text b.next_update ++ ((10 ∷ codes "  number ") ++ (hexed b.told.number.octets ++ ((10 ∷ codes "  expired_certs_on_crl ") ++ moment_or_dash b.told.expired))))))))
+block_text b = (10 ∷ codes "  issuer ") ++ (place_text b.issuer ++ ((10 ∷ codes "  thisUpdate ") ++ (moment_text b.this_update ++ ((10 ∷ codes "  nextUpdate ") ++ (moment_text b.next_update ++ ((10 ∷ codes "  number ") ++ (hexed b.told.number.octets ++ ((10 ∷ codes "  expiredCertsOnCRL ") ++ moment_or_dash b.told.expired))))))))
 
 -- The lines of the signed block, the signature and the number of entries.
 abbrev pub signed_text : Listing → List ℕ
