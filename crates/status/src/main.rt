@@ -1,6 +1,7 @@
 // The program: it carries out the work files that its arguments name.
 #![tactic(auto)]
 
+use std::process::ExitCode;
 use work::running::*;
 
 const USAGE: &str = "usage: status FILE..    carries out work files; - stands for standard input
@@ -20,15 +21,23 @@ OCTETS is the path of a file, or hex: and hex digits. An empty line is passed ov
   inspect hex:3003020101 tiny
 ";
 
-fn main(rt: HostRuntime) -> Result<(), Halt> {
-    let words = arguments(&rt)?;
+fn run(rt: &HostRuntime) -> Result<(), Halt> {
+    let words = arguments(rt)?;
     if words.is_empty() {
         eprintln!(rt; "{USAGE}")?;
         return Err(Halt::Faulty);
     }
-    if words[0] == "--help" {
+    if words[0].as_str() == "--help" {
         print!(rt; "{HELP}")?;
         return Ok(());
     }
-    run_files(&rt, &words)
+    run_files(rt, &words)
+}
+
+// What went wrong has been named by then, so the end says no more than its status.
+fn main(rt: HostRuntime) -> ExitCode {
+    match run(&rt) {
+        Ok(()) => ExitCode::SUCCESS,
+        Err(_) => ExitCode::FAILURE,
+    }
 }

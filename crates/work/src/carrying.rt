@@ -39,7 +39,8 @@ fn say(out: &mut String, command: &Command) -> fmt::Result
     match command {
         Command::Inspect { list, label } => {
             let said = inspect(label.as_str(), list.as_slice());
-            writeln!(out, "{said}")
+            writeln!(out, "{said}")?;
+            Ok(())
         }
     }
 }
