@@ -1,5 +1,5 @@
 -- The signed block. Assumes nothing.
-use Rattle.std.specs.Prelude.{ℕ, ◌+◌, cond, List, [], ◌∷◌, length, Some, None, Ok, Err, Option, Result}
+use Rattle.std.specs.Prelude.{ℕ, ◌+◌, cond, [], ◌∷◌, length, Some, None, Ok, Err, Option, Result}
 use Rattle.std.specs.Str.{bytes_eq}
 use Rattle.refusals.specs.Refusals.{Flaw, flaw}
 use Rattle.items.specs.Parts.{Piece, piece_of}

@@ -1,14 +1,12 @@
 -- A list's octets are fixed by its signed block, algorithm and signature. Assumes nothing.
-use Rattle.std.proofs.Common.{◌≡◌, ℕ, ◌+◌, ◌<◌, ◌≤◌, List, [], ◌∷◌, ◌++◌, length, get_or, sym, refl, ap, ◌∙◌, subst, arith, length-append, get_or-append-add}
-use Rattle.std.proofs.lemmas.List.{get_or_append_left}
+use Rattle.std.proofs.Common.{◌≡◌, ℕ, ◌+◌, ◌<◌, List, [], ◌∷◌, ◌++◌, length, sym, refl, ap, ◌∙◌, subst, arith, length-append, get_or-append-add}
 use Rattle.items.specs.Parts.{Piece}
-use Rattle.algorithm.specs.declared.identifiers.Algorithm.{Algorithm}
 use Rattle.algorithm.specs.Algorithms.{algorithm_octets}
 use Rattle.list.specs.Lists.{Signed, Listing}
 use Rattle.grammar.specs.Items.{Tagged}
 use Rattle.grammar.specs.Law.{Octets}
 use Rattle.grammar.proofs.Standings.{one-encoding}
-use Rattle.crl.specs.Profile.{IsListBody, IsList}
+use Rattle.crl.specs.Profile.{IsListBody}
 use Rattle.crl.specs.Law.{ListsApart}
 
 octets-right : (xs ys : List ℕ) → Octets (xs ++ ys) → Octets ys

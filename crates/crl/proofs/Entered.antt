@@ -1,15 +1,14 @@
 -- Entries are read exactly where they stand. Assumes nothing.
-use Rattle.std.proofs.Common.{◌≡◌, ℕ, ◌+◌, List, length, Some, None, Ok, Err, Option, sym, refl, ap, ◌∙◌, subst}
+use Rattle.std.proofs.Common.{◌≡◌, None, Ok, sym, refl, ap}
 use Rattle.refusals.specs.Refusals.{flaw}
-use Rattle.items.specs.Parts.{Piece}
-use Rattle.der.specs.Reads.{bind, then, got}
-use Rattle.der.specs.Items.{expect_at, all_of}
+use Rattle.der.specs.Reads.{then, got}
+use Rattle.der.specs.Items.{all_of}
 use Rattle.elements.specs.Runs.{run_of}
 use Rattle.telling.specs.declared.role.Context.TheVariants.{Entry as InEntry}
 use Rattle.telling.specs.Tells.{Tells, silent}
 use Rattle.extension.specs.Extensions.{extension_step}
-use Rattle.entry.specs.Entries.{Line, serial_is, serial_at, reasons_at, entry_body_at, entry_at}
-use Rattle.grammar.specs.Grammar.{ExactIf, InTag, Always, Last}
+use Rattle.entry.specs.Entries.{serial_is, serial_at, reasons_at, entry_body_at, entry_at}
+use Rattle.grammar.specs.Grammar.{ExactIf, Always, Last}
 use Rattle.grammar.proofs.Reading.{then_ok, ok-is}
 use Rattle.grammar.proofs.Combine.{seqs, made, in-tag, tested, inside, all_in, all-out, tag-long, maybe-last}
 use Rattle.crl.specs.Profile.{AreExtensions, IsSerial, IsReasons, IsEntryBody, IsEntry}

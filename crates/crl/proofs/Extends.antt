@@ -1,11 +1,11 @@
 -- Extensions are read exactly where they stand. Assumes nothing.
-use Rattle.std.proofs.Common.{◌≡◌, ℕ, ◌+◌, ◌≤◌, Bool, true, false, cond, ◌&&◌, eqb, ◌⊎◌, List, [], ◌∷◌, ◌++◌, length, get_or, Some, None, Ok, Err, Option, Result, sym, refl, ap, ◌∙◌, subst, inl, inr, arith}
+use Rattle.std.proofs.Common.{◌≡◌, ℕ, ◌≤◌, Bool, true, false, ◌&&◌, eqb, List, [], ◌∷◌, length, Some, None, Ok, Option, sym, refl, ap, ◌∙◌, subst, arith}
 use Rattle.std.specs.Str.{bytes_eq}
-use Rattle.std.proofs.lemmas.Bool.{eqb-true, eq-eqb, cond-true, cond_both}
+use Rattle.std.proofs.lemmas.Bool.{eqb-true, cond-true, cond_both}
 use Rattle.refusals.specs.Refusals.{Flaw, flaw}
-use Rattle.der.specs.Reads.{Left, Got, Both, bind, then, got}
+use Rattle.der.specs.Reads.{Left, Both, bind, then, got}
 use Rattle.items.specs.Parts.{Piece}
-use Rattle.der.specs.Items.{expect_at, all_of, next_is}
+use Rattle.der.specs.Items.{expect_at, all_of}
 use Rattle.elements.specs.Runs.{run_of}
 use Rattle.moment.specs.Texts.{general_text, general_read}
 use Rattle.moment.proofs.Inverses.{general-inverse}
@@ -18,15 +18,15 @@ use Rattle.telling.specs.Tells.{Tells, silent, stood_in, merged}
 use Rattle.der.specs.Reads.{or_fault}
 use Rattle.extension.specs.Values.{number_is, number_at, expired_at, reason_at, value_at, value_by}
 use Rattle.extension.specs.Extensions.{Extn, unread, flag_at, body_at, extension_at, extension_step}
-use Rattle.grammar.specs.Items.{Tagged, Parsed}
-use Rattle.grammar.specs.Grammar.{Seq, Made, Where, InTag, Maybe, Elements, Folds, ExactIf, Always, NotNext}
-use Rattle.grammar.proofs.Reading.{bind_ok, then_ok, passed, barred, ok-is, expect-sound, expect-full, next-is}
-use Rattle.grammar.proofs.Combine.{seq, seqs, made, guarded, recast, in-tag, tested, inside, all_in, all-out, tag-long, maybe-next}
+use Rattle.grammar.specs.Items.{Tagged}
+use Rattle.grammar.specs.Grammar.{InTag, Elements, ExactIf, Always, NotNext}
+use Rattle.grammar.proofs.Reading.{then_ok, ok-is, expect-sound, expect-full, next-is}
+use Rattle.grammar.proofs.Combine.{seq, seqs, made, guarded, recast, in-tag, tested, all_in, all-out, tag-long, maybe-next}
 use Rattle.grammar.proofs.RunExact.{run_in, run_out}
-use Rattle.crl.specs.Profile.{IsFlag, IsValue, IsExtensionBody, IsExtension, Together, AreExtensions}
+use Rattle.crl.specs.Profile.{IsFlag, IsValue, IsExtensionBody, IsExtension, Together}
 use Rattle.crl.proofs.Octets.{same-is, is_same}
 use Rattle.crl.proofs.Timely.{fault-some, text-reads}
-use Rattle.crl.proofs.Tellings.{Adds, Once, stood-once, once-stood, adds-merged, adds-once, folds-together, together-folds}
+use Rattle.crl.proofs.Tellings.{Adds, stood-once, once-stood, adds-merged, adds-once, folds-together, together-folds}
 
 -- the flag
 pub flag-exact : ExactIf (NotNext 1) flag_at IsFlag

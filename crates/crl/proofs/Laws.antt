@@ -1,19 +1,18 @@
 -- What a result that equals the meaning says by the law. Assumes nothing.
-use Rattle.std.proofs.Common.{◌≡◌, ℕ, ◌≤◌, cond, ltb, ◌⊎◌, List, [], length, Some, None, Ok, Err, Option, Result, sym, refl, ap, ◌∙◌, subst, inl, inr, arith, MatchResult}
-use Rattle.std.proofs.lemmas.Bool.{ltb-true, ltb-false, le-ltb, cond-false, cond_both}
+use Rattle.std.proofs.Common.{◌≡◌, ℕ, ltb, List, [], length, Some, Ok, Err, Result, sym, ap, ◌∙◌, subst, inl, inr, arith, MatchResult}
+use Rattle.std.proofs.lemmas.Bool.{ltb-false, le-ltb, cond-false, cond_both}
 use Rattle.refusals.specs.declared.grounds.Refusal.{Refusal}
-use Rattle.refusals.specs.Refusals.{Flaw, Refused, refused}
+use Rattle.refusals.specs.Refusals.{Flaw, refused}
 use Rattle.items.specs.Parts.{Piece}
 use Rattle.der.specs.Reads.{Both}
-use Rattle.elements.specs.Runs.{run_of}
-use Rattle.entry.specs.Entries.{Line, entry_at, entry_step}
+use Rattle.entry.specs.Entries.{Line, entry_at}
 use Rattle.list.specs.declared.signed.RevocationList.{RevocationList}
 use Rattle.block.specs.Blocks.{Lines, Held}
 use Rattle.list.specs.Lists.{Listing, listing_of, list_of}
 use Rattle.grammar.specs.Grammar.{Elements}
 use Rattle.grammar.proofs.Combine.{tag-long}
 use Rattle.grammar.proofs.RunExact.{plain_out}
-use Rattle.crl.specs.Profile.{IsEntry, IsEntries, IsList}
+use Rattle.crl.specs.Profile.{IsEntry, IsEntries}
 use Rattle.crl.specs.Law.{in_list, read_of, answered, Keeps, lines_in, ok_or, EntriesStand}
 use Rattle.crl.proofs.Entered.{entry-exact}
 use Rattle.crl.proofs.Listed.{list-in, list-out}

@@ -1,12 +1,12 @@
 -- Lists are read exactly where they stand. Assumes nothing.
-use Rattle.std.proofs.Common.{◌≡◌, ℕ, ◌+◌, ◌≤◌, true, false, cond, ◌&&◌, eqb, leb, List, [], ◌∷◌, ◌++◌, length, get_or, drop, Some, None, Ok, Err, Option, Result, sym, refl, ap, ◌∙◌, subst, arith}
+use Rattle.std.proofs.Common.{◌≡◌, ℕ, ◌+◌, ◌≤◌, true, false, cond, ◌&&◌, eqb, leb, List, [], ◌∷◌, ◌++◌, length, drop, Some, None, Ok, Err, Option, sym, refl, ap, ◌∙◌, subst, arith}
 use Rattle.std.specs.Str.{bytes_eq}
 use Rattle.std.proofs.lemmas.Bool.{ne_eqb, eqb-true, eqb-false, and_parts, leb-true, le-leb, cond-true, cond-false, cond_both}
-use Rattle.refusals.specs.Refusals.{Flaw, flaw}
-use Rattle.der.specs.Reads.{Left, Got, bind, then, got, between}
+use Rattle.refusals.specs.Refusals.{flaw}
+use Rattle.der.specs.Reads.{Left, Got, then, got}
 use Rattle.items.specs.Parts.{Piece}
 use Rattle.items.specs.Things.{Thing}
-use Rattle.der.specs.Items.{Wholly, item_at, expect_at, whole_at, raw_at, name_at, all_of}
+use Rattle.der.specs.Items.{item_at, raw_at, name_at, all_of}
 use Rattle.elements.specs.Runs.{run_of}
 use Rattle.telling.specs.declared.role.Context.TheVariants.{List as InList}
 use Rattle.telling.specs.Tells.{Tells, silent}
@@ -16,16 +16,16 @@ use Rattle.entry.specs.Entries.{entry_at}
 use Rattle.algorithm.specs.declared.identifiers.Algorithm.{Algorithm}
 use Rattle.algorithm.specs.declared.identifiers.Algorithm.TheVariants.{Sha1WithRsa, Sha256WithRsa, HmacWithSha256}
 use Rattle.algorithm.specs.Algorithms.{algorithm_octets, algorithm_in, algorithm_at, again_at}
-use Rattle.block.specs.Blocks.{Lines, Numbered, Held, version_at, entries_at, numbered, told_in, told_at, context_at, block_at}
-use Rattle.list.specs.Lists.{BlockAs, Signed, Listing, signed_at, signature_is, signature_at, body_at, list_at, list_of}
+use Rattle.block.specs.Blocks.{Numbered, Held, version_at, entries_at, numbered, told_in, told_at, context_at, block_at}
+use Rattle.list.specs.Lists.{Listing, signed_at, signature_is, signature_at, body_at, list_at, list_of}
 use Rattle.grammar.specs.Items.{IsItem, Parsed}
 use Rattle.grammar.specs.Items.LengthIs.{short}
-use Rattle.grammar.specs.Grammar.{ExactIf, InTag, InWhole, Always, NotNext}
+use Rattle.grammar.specs.Grammar.{ExactIf, InTag, Always, NotNext}
 use Rattle.grammar.proofs.Exacts.{item-sound, item-full}
 use Rattle.grammar.proofs.Reading.{bind_ok, then_ok, passed, barred, ok-is, between_is, next-is}
-use Rattle.grammar.proofs.Combine.{seq, seqs, made, recast, in_whole, in-tag, tested, inside, all_in, all-out, tag-long, maybe-next}
+use Rattle.grammar.proofs.Combine.{seq, seqs, made, recast, in_whole, tested, inside, all_in, all-out, tag-long, maybe-next}
 use Rattle.grammar.proofs.RunExact.{sequence-of}
-use Rattle.crl.specs.Profile.{AreExtensions, IsEntry, IsEntries, IsVersion, IsAlgorithm, IsName, AreNumbered, IsContext, IsBlock, IsSigned, IsSignature, IsListBody, IsList}
+use Rattle.crl.specs.Profile.{IsEntry, IsEntries, IsVersion, IsAlgorithm, IsName, AreNumbered, IsContext, IsBlock, IsSigned, IsSignature, IsListBody, IsList}
 use Rattle.crl.proofs.Octets.{same-is, is_same}
 use Rattle.crl.proofs.Timely.{fault-some, time-exact}
 use Rattle.crl.proofs.Extends.{extensions-in, extensions-out}

@@ -1,8 +1,8 @@
 -- Times are read exactly where they stand. Assumes nothing.
-use Rattle.std.proofs.Common.{◌≡◌, ℕ, ◌+◌, ◌<◌, ◌≤◌, Bool, true, false, cond, ◌||◌, eqb, leb, ◌⊎◌, List, ◌++◌, length, Some, None, Ok, Err, Option, Result, sym, refl, ap, ◌∙◌, subst, inl, inr, arith}
-use Rattle.std.proofs.lemmas.Bool.{cases_Bool, eqb-true, le-leb, leb-true, cond-true, cond-false, cond_both}
+use Rattle.std.proofs.Common.{◌≡◌, ℕ, ◌+◌, ◌≤◌, true, false, ◌||◌, eqb, leb, ◌⊎◌, List, ◌++◌, length, Some, None, Ok, Option, sym, refl, ap, ◌∙◌, subst, inl, inr, arith}
+use Rattle.std.proofs.lemmas.Bool.{cases_Bool, eqb-true, le-leb, leb-true, cond-true, cond_both}
 use Rattle.refusals.specs.Refusals.{Flaw, flaw}
-use Rattle.der.specs.Reads.{Left, Got, bind, then, got}
+use Rattle.der.specs.Reads.{Left, Got, then, got}
 use Rattle.items.specs.Parts.{Piece}
 use Rattle.items.specs.Things.{Thing}
 use Rattle.der.specs.Items.{item_at}
@@ -10,8 +10,8 @@ use Rattle.moment.specs.Texts.{utc_text, utc_read, general_text, general_read}
 use Rattle.moment.proofs.Inverses.{utc-inverse, general-inverse}
 use Rattle.der.specs.Reads.{or_fault}
 use Rattle.entry.specs.Times.{late, time_by, or_flaw, timely, time_at}
-use Rattle.grammar.specs.Items.{IsItem, Tagged, Parsed}
-use Rattle.grammar.specs.Grammar.{InTag, ExactIf, Always}
+use Rattle.grammar.specs.Items.{Tagged, Parsed}
+use Rattle.grammar.specs.Grammar.{ExactIf, Always}
 use Rattle.grammar.proofs.Exacts.{item-sound, item-full}
 use Rattle.grammar.proofs.Reading.{bind_ok, then_ok, passed, ok-is}
 use Rattle.crl.specs.Profile.{IsTime}

@@ -2,11 +2,10 @@
 use Rattle.std.specs.Prelude.{◌≡◌, ℕ, ◌+◌, ◌^◌, ◌≤◌, cond, List, [], length, Some, None, Ok, Err, Option, Result, nat_lt}
 use Rattle.refusals.specs.declared.grounds.Refusal.{Refusal}
 use Rattle.refusals.specs.Refusals.{Flaw, flaw, Refused, refused, refused_of}
-use Rattle.der.specs.Reads.{Left, Got, start_of}
+use Rattle.der.specs.Reads.{Got, start_of}
 use Rattle.items.specs.Parts.{Piece}
 use Rattle.elements.specs.Runs.{run_of}
 use Rattle.entry.specs.Entries.{Line, entry_at, entry_step}
-use Rattle.block.specs.Blocks.{Lines}
 use Rattle.list.specs.Lists.{Listing, list_of}
 use Rattle.grammar.specs.Grammar.{Elements}
 use Rattle.grammar.specs.Law.{Octets}

@@ -1,5 +1,5 @@
 -- Reading: what is left, what was got. Assumes nothing.
-use Rattle.std.specs.Prelude.{◌≡◌, ℕ, ◌-◌, List, length, take, Some, None, Ok, Err, Option, Result}
+use Rattle.std.specs.Prelude.{ℕ, ◌-◌, List, length, take, Some, None, Ok, Err, Option, Result}
 use Rattle.refusals.specs.declared.grounds.Fault.{Fault}
 use Rattle.der.specs.declared.cursor.Reader.{Reader}
 use Rattle.refusals.specs.Refusals.{Flaw, flaw_of}

@@ -1,9 +1,9 @@
 -- One element more of a run, and of the memory that keeps its elements. Assumes nothing.
-use Rattle.std.proofs.Common.{◌≡◌, ℕ, suc, ◌+◌, ◌≤◌, cond, ltb, List, [], ◌∷◌, ◌++◌, length, set, Some, None, Ok, Err, Option, Result, sym, refl, ap, ◌∙◌, subst, inl, inr, append_assoc, append-nil, arith, length-append}
+use Rattle.std.proofs.Common.{◌≡◌, ℕ, suc, ◌+◌, ◌≤◌, ltb, List, [], ◌∷◌, ◌++◌, length, set, Some, None, Ok, Err, Result, sym, refl, ap, ◌∙◌, subst, inl, inr, append_assoc, append-nil, arith, length-append}
 use Rattle.std.proofs.lemmas.Bool.{cases_lt, lt-ltb, le-ltb, cond-true, cond-false}
 use Rattle.refusals.specs.declared.grounds.Fault.{Fault}
 use Rattle.der.specs.Reads.{Left}
-use Rattle.elements.specs.Runs.{Ran, Walked, Onward, laid, kept}
+use Rattle.elements.specs.Runs.{Walked, Onward, laid, kept}
 use Rattle.elements.specs.Runs.Ran.{last, stopped, more}
 
 pub laid_none : {E : Type 0} (out : List E) → laid [] out ≡ out

@@ -1,5 +1,5 @@
 -- Names as elements. Assumes nothing.
-use Rattle.std.specs.Prelude.{ℕ, Ok, Err, Result}
+use Rattle.std.specs.Prelude.{Ok, Result}
 use Rattle.elements.specs.declared.names.Name.{Name}
 use Rattle.elements.specs.declared.walk.Plain.{Plain}
 use Rattle.refusals.specs.Refusals.{Flaw}

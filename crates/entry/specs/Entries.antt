@@ -1,5 +1,5 @@
 -- Entries. Assumes nothing.
-use Rattle.std.specs.Prelude.{ℕ, Bool, cond, not, ◌&&◌, List, [], ◌∷◌, length, Some, None, Ok, Err, Option, Result, ◌==◌, nat_le}
+use Rattle.std.specs.Prelude.{ℕ, Bool, cond, not, ◌&&◌, List, [], ◌∷◌, length, None, Ok, Err, Option, Result, ◌==◌, nat_le}
 use Rattle.std.specs.Str.{bytes_eq}
 use Rattle.refusals.specs.Refusals.{Flaw, flaw}
 use Rattle.der.specs.Reads.{Left, Got, Both, Reads, got, bind, then, mapped}

@@ -1,7 +1,7 @@
 -- The times of a list. Assumes nothing.
-use Rattle.std.specs.Prelude.{ℕ, Bool, cond, ◌||◌, List, Some, None, Ok, Err, Option, Result, ◌==◌, nat_le}
+use Rattle.std.specs.Prelude.{ℕ, cond, ◌||◌, List, Some, None, Ok, Err, Option, Result, ◌==◌, nat_le}
 use Rattle.refusals.specs.Refusals.{Flaw, flaw}
-use Rattle.der.specs.Reads.{Left, Got, Reads, got, bind, then}
+use Rattle.der.specs.Reads.{Reads, got, bind, then}
 use Rattle.der.specs.Items.{item_at}
 use Rattle.moment.specs.Texts.{utc_read, general_read}
 

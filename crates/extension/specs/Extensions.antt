@@ -1,5 +1,5 @@
 -- Extensions. Assumes nothing.
-use Rattle.std.specs.Prelude.{ℕ, Bool, true, false, cond, ◌&&◌, List, [], ◌∷◌, Ok, Err, Result}
+use Rattle.std.specs.Prelude.{ℕ, Bool, true, false, cond, ◌&&◌, [], ◌∷◌, Ok, Err, Result}
 use Rattle.std.specs.Str.{bytes_eq}
 use Rattle.refusals.specs.Refusals.{Flaw, flaw}
 use Rattle.der.specs.Reads.{Left, Got, Both, Reads, got, bind, then}

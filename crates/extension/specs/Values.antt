@@ -1,5 +1,5 @@
 -- The value of an extension that is read. Assumes nothing.
-use Rattle.std.specs.Prelude.{ℕ, Bool, cond, ◌&&◌, List, length, Some, None, Ok, Err, Option, Result, nat_le, nat_lt, slice_index}
+use Rattle.std.specs.Prelude.{ℕ, Bool, cond, ◌&&◌, List, length, Some, None, Ok, Err, Result, nat_le, nat_lt, slice_index}
 use Rattle.refusals.specs.Refusals.{Flaw, flaw}
 use Rattle.der.specs.Reads.{Reads, got, bind, or_fault}
 use Rattle.items.specs.Parts.{Piece}

@@ -1,9 +1,9 @@
 -- An item is found at an offset exactly where it stands, and has one encoding. Assumes nothing.
-use Rattle.std.proofs.Common.{◌≡◌, ℕ, ◌+◌, ◌-◌, ◌*◌, ◌<◌, ◌≤◌, List, [], ◌∷◌, ◌++◌, length, get_or, take, drop, Ok, Err, Result, sym, refl, ap, ◌∙◌, subst, append_assoc, arith, length-append, length-drop, length-take-le, drop_at, MatchResult}
+use Rattle.std.proofs.Common.{◌≡◌, ℕ, ◌+◌, ◌-◌, ◌<◌, ◌≤◌, List, [], ◌∷◌, ◌++◌, length, get_or, take, drop, Ok, Err, Result, sym, refl, ap, ◌∙◌, subst, arith, length-append, length-drop, length-take-le, drop_at, MatchResult}
 use Rattle.std.proofs.lemmas.List.{take-append-drop}
 use Rattle.refusals.specs.declared.grounds.Fault.{Fault}
 use Rattle.items.specs.declared.item.Item.{Item}
-use Rattle.der.specs.Reads.{Left, Got, bind, got, seen}
+use Rattle.der.specs.Reads.{Left, got, seen}
 use Rattle.items.specs.Things.{Thing, thing_of}
 use Rattle.der.specs.Items.{item_at}
 use Rattle.grammar.specs.Items.{LengthIs, IsItem}

@@ -1,6 +1,6 @@
 -- Shapes put together, as ASN.1 puts types together. Assumes nothing.
 -- A shape says of an offset, the octets that stand there and a value, that the octets are the value's encoding.
-use Rattle.std.specs.Prelude.{◌≡◌, ℕ, ◌+◌, ◌≤◌, Bool, true, false, ◌⊎◌, List, [], ◌∷◌, ◌++◌, length, Ok, Err, Result}
+use Rattle.std.specs.Prelude.{◌≡◌, ℕ, ◌+◌, false, ◌⊎◌, List, [], ◌∷◌, ◌++◌, length, Ok, Result}
 use Rattle.refusals.specs.Refusals.{Flaw}
 use Rattle.der.specs.Reads.{Left, Got}
 use Rattle.items.specs.Parts.{Piece}

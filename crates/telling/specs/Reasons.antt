@@ -1,5 +1,5 @@
 -- Reasons by their numbers. Assumes nothing.
-use Rattle.std.specs.Prelude.{ℕ, ◌+◌, Bool, cond, ◌&&◌, ◌||◌, List, [], ◌∷◌, length, Some, None, Option, ◌==◌, nat_le, slice_index}
+use Rattle.std.specs.Prelude.{ℕ, Bool, cond, ◌&&◌, ◌||◌, List, length, Some, None, Option, ◌==◌, nat_le, slice_index}
 use Rattle.telling.specs.declared.reason.Reason.{Reason}
 use Rattle.telling.specs.declared.reason.Reason.TheVariants.{KeyCompromise, CaCompromise, AffiliationChanged, Superseded, CessationOfOperation, PrivilegeWithdrawn, AaCompromise}
 

@@ -1,7 +1,6 @@
 -- What is written as an extension is one, and reads back. Assumes nothing.
 use Rattle.std.proofs.Common.{◌≡◌, ℕ, ◌+◌, ◌<◌, ◌≤◌, Bool, true, false, ◌&&◌, List, [], ◌∷◌, ◌++◌, length, Some, None, Ok, Err, Result, sym, refl, ap, ◌∙◌, subst, inl, inr, arith, MatchResult}
 use Rattle.refusals.specs.declared.grounds.Fault.{Fault}
-use Rattle.refusals.specs.Refusals.{Flaw}
 use Rattle.der.specs.Reads.{Left, Got, Both, got, told_both}
 use Rattle.items.specs.Parts.{Piece}
 use Rattle.telling.specs.declared.role.Context.{Context}
@@ -12,7 +11,6 @@ use Rattle.telling.specs.Tells.{Tells, stood_in, merged}
 use Rattle.extension.specs.Extensions.{Extn, extension_of, unread, extension_step}
 use Rattle.extension.specs.declared.extensions.Extension.{Extension}
 use Rattle.grammar.specs.Items.{Tagged}
-use Rattle.grammar.specs.Grammar.{InTag}
 use Rattle.crl.specs.Profile.{IsFlag, IsValue, IsExtension}
 use Rattle.crl.proofs.Tellings.{Adds, stood-once, adds-merged}
 use Rattle.crl.proofs.Extends.{value_in, extension-value, step-exact}

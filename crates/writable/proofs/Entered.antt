@@ -1,9 +1,9 @@
 -- What is written as an entry is one, and reads back. Assumes nothing.
-use Rattle.std.proofs.Common.{◌≡◌, ℕ, ◌+◌, ◌<◌, ◌≤◌, true, false, List, [], ◌∷◌, ◌++◌, length, Some, None, Ok, Err, Option, Result, sym, refl, ap, ◌∙◌, subst, inl, inr, append-nil, arith, length-append, MatchResult}
+use Rattle.std.proofs.Common.{◌≡◌, ℕ, ◌+◌, ◌<◌, ◌≤◌, true, false, List, [], ◌∷◌, ◌++◌, length, Some, None, Ok, Option, Result, sym, refl, ap, ◌∙◌, subst, inl, inr, append-nil, arith, length-append, MatchResult}
 use Rattle.refusals.specs.declared.grounds.Fault.{Fault}
 use Rattle.elements.specs.declared.walk.Plain.{Plain}
 use Rattle.elements.specs.Names.{plain_of}
-use Rattle.der.specs.Reads.{Left, Got, Both, got, told_both, mapped}
+use Rattle.der.specs.Reads.{Left, got, told_both, mapped}
 use Rattle.items.specs.Parts.{Piece}
 use Rattle.telling.specs.declared.reason.Reason.{Reason}
 use Rattle.telling.specs.declared.reason.Reason.TheVariants.{KeyCompromise, CaCompromise, AffiliationChanged, Superseded, CessationOfOperation, PrivilegeWithdrawn, AaCompromise}
@@ -12,9 +12,9 @@ use Rattle.telling.specs.Reasons.{reason_number, admitted}
 use Rattle.telling.specs.Roles.{reason_identifier}
 use Rattle.extension.specs.Extensions.{Extn}
 use Rattle.entry.specs.declared.entries.Entry.{Entry}
-use Rattle.entry.specs.Entries.{Line, line_of, serial_is, entry_step, entry_at}
+use Rattle.entry.specs.Entries.{Line, line_of, entry_step, entry_at}
 use Rattle.grammar.specs.Items.{Tagged}
-use Rattle.crl.specs.Profile.{IsValue, IsReasons, IsEntry}
+use Rattle.crl.specs.Profile.{IsReasons, IsEntry}
 use Rattle.crl.proofs.Entered.{entry-exact}
 use Rattle.encode.specs.Der.{der, length_octets}
 use Rattle.encode.proofs.Ders.{length-der, items-written}

@@ -2,7 +2,6 @@
 use Rattle.std.specs.Prelude.{◌≡◌, ℕ, ◌≤◌, true, false, List, [], ◌∷◌, ◌++◌, Some, None, Option}
 use Rattle.items.specs.Headers.{shortest}
 use Rattle.moment.specs.Texts.{utc_text, general_text}
-use Rattle.telling.specs.Reasons.{admitted}
 use Rattle.telling.specs.Roles.{reason_identifier}
 use Rattle.entry.specs.Entries.{Line, serial_is}
 use Rattle.encode.specs.Der.{der}

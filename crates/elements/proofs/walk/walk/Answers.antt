@@ -1,4 +1,4 @@
-use Rattle.std.proofs.Common.{sym, subst, arith, rules}
+use Rattle.std.proofs.Common.{arith}
 use Rattle.std.proofs.lemmas.Result.{err_from_is_err_and}
 use Rattle.elements.proofs.Onwards.{onward-none, onward-more, onward-last, onward-stop}
 use Rattle.elements.proofs.walk.walk.Goals as goal

@@ -1,5 +1,5 @@
-use Rattle.std.proofs.Common.{◌≡◌, ◌+◌, length, sym, ap, ◌∙◌, arith, rules}
-use Rattle.encode.specs.Der.{der, length_octets}
+use Rattle.std.proofs.Common.{length, ap, arith, rules}
+use Rattle.encode.specs.Der.{length_octets}
 use Rattle.encode.proofs.Ders.{length-der}
 use Rattle.encode.proofs.put.item_size.Goals as goal
 

@@ -1,4 +1,4 @@
-use Rattle.std.proofs.Common.{◌≡◌, [], map, Ok, Err, sym, ap, ◌∙◌, rules}
+use Rattle.std.proofs.Common.{◌≡◌, map, Ok, Err, sym, ap, ◌∙◌, rules}
 use Rattle.refusals.specs.Refusals.{flaw_of}
 use Rattle.items.specs.Parts.{piece_of}
 use Rattle.elements.specs.Runs.{run_of}

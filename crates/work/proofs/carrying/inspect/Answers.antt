@@ -1,4 +1,4 @@
-use Rattle.std.proofs.Common.{◌≡◌, ◌∷◌, ◌++◌, codes, sym, refl, ap, ◌∙◌}
+use Rattle.std.proofs.Common.{◌∷◌, ◌++◌, codes, ap, ◌∙◌}
 use Rattle.refusals.specs.Refusals.{refused_of}
 use Rattle.report.specs.Said.{refused_text}
 use Rattle.work.specs.Answers.{inspect_text, answer_text}

@@ -1,4 +1,4 @@
-use Rattle.std.proofs.Common.{◌≡◌, arith}
+use Rattle.std.proofs.Common.{arith}
 use Rattle.der.specs.Reads.{mapped}
 use Rattle.telling.specs.Reasons.{reason_number}
 use Rattle.writable.proofs.Timed.{time-within}

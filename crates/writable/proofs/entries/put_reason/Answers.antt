@@ -1,9 +1,7 @@
-use Rattle.std.proofs.Common.{◌≡◌, [], ◌∷◌, length, Some, sym, refl, ap, ◌∙◌, arith}
+use Rattle.std.proofs.Common.{length, Some, sym, ap, ◌∙◌, arith}
 use Rattle.der.specs.Reads.{mapped}
 use Rattle.telling.specs.Reasons.{reason_number}
-use Rattle.telling.specs.Roles.{reason_identifier}
 use Rattle.encode.proofs.Overs.{none, moved, item}
-use Rattle.writable.specs.Extensions.{extension_octets}
 use Rattle.writable.specs.Entries.{reason_octets}
 use Rattle.writable.proofs.Entered.{reason-length, reason-inner}
 use Rattle.writable.proofs.entries.put_reason.Goals as goal

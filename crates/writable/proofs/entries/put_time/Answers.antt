@@ -1,4 +1,4 @@
-use Rattle.std.proofs.Common.{◌≡◌, length, sym, refl, ap, ◌∙◌, arith}
+use Rattle.std.proofs.Common.{length, sym, ap, arith}
 use Rattle.encode.proofs.Overs.{moved}
 use Rattle.writable.proofs.Timed.{utc-length, general-length, utc-octets, general-octets, no-octets}
 use Rattle.writable.proofs.entries.put_time.Goals as goal

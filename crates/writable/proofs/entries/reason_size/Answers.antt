@@ -1,4 +1,4 @@
-use Rattle.std.proofs.Common.{◌≡◌, length, sym, ap, ◌∙◌}
+use Rattle.std.proofs.Common.{length, sym, ap, ◌∙◌}
 use Rattle.der.specs.Reads.{mapped}
 use Rattle.telling.specs.Reasons.{reason_number}
 use Rattle.writable.specs.Entries.{reason_octets}

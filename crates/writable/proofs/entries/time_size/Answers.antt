@@ -1,4 +1,4 @@
-use Rattle.std.proofs.Common.{◌≡◌, [], length, sym, refl, ap, ◌∙◌, arith}
+use Rattle.std.proofs.Common.{[], length, sym, refl, ap, arith}
 use Rattle.writable.proofs.Timed.{utc-length, general-length, utc-octets, general-octets, no-octets, short-item}
 use Rattle.writable.proofs.entries.time_size.Goals as goal
 

@@ -1,4 +1,4 @@
-use Rattle.std.proofs.Common.{◌≡◌, length, ap, arith, rules}
+use Rattle.std.proofs.Common.{length, ap, arith}
 use Rattle.writable.proofs.Lengths.{length-content, flag-within}
 use Rattle.writable.proofs.extensions.content_size.Goals as goal
 

@@ -1,4 +1,4 @@
-use Rattle.std.proofs.Common.{◌≡◌, ◌<◌, length, sym, refl, ◌∙◌, inl, inr, arith}
+use Rattle.std.proofs.Common.{◌<◌, length, sym, refl, ◌∙◌, inl, inr, arith}
 use Rattle.writable.specs.Extensions.{extension_content, extension_octets}
 use Rattle.writable.proofs.Lengths.{lengths, length-extension, sized-not, sized-is}
 use Rattle.writable.proofs.extensions.extension_size.Goals as goal

@@ -1,7 +1,7 @@
-use Rattle.std.proofs.Common.{◌≡◌, length, sym, refl, ap, ◌∙◌, arith}
+use Rattle.std.proofs.Common.{length, refl, ap, arith}
 use Rattle.encode.specs.Der.{length_octets}
 use Rattle.encode.proofs.Overs.{then, moved, item}
-use Rattle.writable.specs.Extensions.{extension_content, extension_octets, flag_octets}
+use Rattle.writable.specs.Extensions.{extension_content, extension_octets}
 use Rattle.writable.proofs.Lengths.{lengths}
 use Rattle.writable.proofs.extensions.put_extension.Goals as goal
 

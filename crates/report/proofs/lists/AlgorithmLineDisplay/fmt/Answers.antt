@@ -1,4 +1,4 @@
-use Rattle.std.proofs.Common.{ℕ, List, ◌∷◌, ◌++◌, codes, decimal, ap}
+use Rattle.std.proofs.Common.{ℕ, ◌∷◌, ◌++◌, codes, decimal, ap}
 use Rattle.std.proofs.Output.{has_written_of_eq}
 use Rattle.report.proofs.lists.AlgorithmLineDisplay.fmt.Goals as goal
 

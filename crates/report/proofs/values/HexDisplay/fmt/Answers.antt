@@ -1,7 +1,6 @@
-use Rattle.std.proofs.Common.{◌≡◌, ℕ, ◌<◌, List, length, get_or, refl, ap, arith}
+use Rattle.std.proofs.Common.{refl, ap, arith}
 use Rattle.std.proofs.Output.{writes_in_calls_nil, has_written_append, has_written_of_eq}
 use Rattle.std.proofs.lemmas.List.{take_all}
-use Rattle.std.specs.Fmt.{HasWritten}
 use Rattle.report.specs.Values.{hexed}
 use Rattle.report.proofs.Hexes.{hexed-more}
 use Rattle.report.proofs.values.HexDisplay.fmt.Goals as goal

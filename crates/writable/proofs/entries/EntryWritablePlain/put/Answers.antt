@@ -1,4 +1,4 @@
-use Rattle.std.proofs.Common.{◌≡◌, length, refl, ap, arith}
+use Rattle.std.proofs.Common.{length, refl, ap, arith}
 use Rattle.entry.specs.Entries.{line_of}
 use Rattle.encode.specs.Der.{length_octets}
 use Rattle.encode.proofs.Overs.{then, item}

@@ -1,4 +1,4 @@
-use Rattle.std.proofs.Common.{◌≡◌, ◌<◌, length, sym, refl, ◌∙◌, arith}
+use Rattle.std.proofs.Common.{◌<◌, length, sym, refl, ◌∙◌, arith}
 use Rattle.entry.specs.Entries.{line_of}
 use Rattle.writable.specs.Entries.{entry_content, entry_octets}
 use Rattle.writable.proofs.Lengths.{sized-not, sized-is}
