@@ -6,7 +6,7 @@
 set -eu
 root=$(cd "$(dirname "$0")/.." && pwd)
 cd "$root"
-rt staticlib digest_c >/dev/null
+(cd crates/digest_c && rt lib) >/dev/null
 work=$root/target/bench
 registry=/usr/share/cargo/registry
 mkdir -p "$work/.cargo"
@@ -24,7 +24,7 @@ opt-level = 3
 unexpected_cfgs = { level = "allow", check-cfg = ['cfg(has_sha2)'] }
 [workspace]
 END
-flags="-L native=$root/target/staticlib -l static=digest_c -l dylib=crypto"
+flags="-L native=$root/crates/digest_c/out -l static=digest_c -l dylib=crypto"
 if ls -d "$registry"/sha2-0.10.* >/dev/null 2>&1; then
     cat >>"$work/Cargo.toml" <<END
 [dependencies]

@@ -1,7 +1,8 @@
 #!/usr/bin/env python3
 """Compares the digest of each length from 0 to 130 with Python's hashlib, which shares no code with this repository.
 
-The digests are those that the program `vectors` prints, of the octets 0, 1, 2 and so on. Build it first: rt check vectors
+The digests are those that the program `vectors` prints, of the octets 0, 1, 2 and so on. Build it first: rt run in
+crates/vectors
 (or give the program's path). Ends with status 1 if a length is missing, twice there or differs."""
 import hashlib
 import os
@@ -10,9 +11,9 @@ import subprocess
 import sys
 
 root = os.path.dirname(os.path.dirname(os.path.abspath(__file__)))
-program = sys.argv[1] if len(sys.argv) > 1 else os.path.join(root, "target", "bin", "vectors")
+program = sys.argv[1] if len(sys.argv) > 1 else os.path.join(root, "crates", "vectors", "out", "vectors")
 if not os.path.exists(program):
-    sys.exit(f"{program} is not there: run rt check vectors first")
+    sys.exit(f"{program} is not there: run rt run in crates/vectors first")
 ran = subprocess.run([program], capture_output=True, text=True)
 lines = re.findall(r"^length (\d+), in parts too (\w+): ([0-9a-f]{64})$", ran.stdout, re.M)
 faults = []
