@@ -1,11 +1,13 @@
 -- What is printed of the commands of a work file.
 use Rattle.std.specs.Prelude.{ℕ, cond, List, [], ◌∷◌, ◌++◌, length, drop, Ok, Err, vec_items, string_bytes, codes, decimal, Result, ◌==◌}
+use Rattle.std.specs.List.{flat_map}
 use Rattle.refusals.specs.Refusals.{Refused}
 use Rattle.list.specs.Lists.{Listing}
 use Rattle.crl.specs.Law.{read_of}
 use Rattle.report.specs.Said.{list_text, refused_text}
 use Rattle.workfile.specs.declared.commands.Command.{Command}
 use Rattle.workfile.specs.declared.commands.Command.TheVariants.{Inspect}
+use Rattle.workfile.specs.declared.reading.Work.{Work}
 
 -- The octets from the place of a refusal on, where it stands in the list.
 abbrev pub rest_of : Refused → List ℕ → List ℕ
@@ -25,5 +27,8 @@ command_text (Inspect list label) = inspect_text (string_bytes label) (vec_items
 
 -- The texts of commands in their order.
 unfoldable pub all_text : List Command → List ℕ
-all_text [] = []
-all_text (c ∷ cs) = command_text c ++ all_text cs
+all_text cs = flat_map command_text cs
+
+-- The texts of works in their order.
+unfoldable pub works_text : List Work → List ℕ
+works_text ws = flat_map (λ w. all_text (vec_items w.commands)) ws

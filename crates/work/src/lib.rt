@@ -3,3 +3,4 @@
 
 pub mod carrying;
 pub mod running;
+pub mod writing;

@@ -1,7 +1,9 @@
 // Running work files: the one place where they are opened and where anything is printed.
-use crate::carrying::carry_out;
+ghost use Rattle.std.specs.Prelude.{◌≡◌, ◌≢◌, ◌≤◌, length, IfErr, IfOk, IsOk};
+
+use crate::writing::write_works;
 use std::alloc::{AllocError, AllocFailed};
-use std::io::{Read, Write};
+use std::io::Read;
 use std::{env, fmt, fs, io};
 use workfile::reading::*;
 
@@ -15,12 +17,20 @@ pub enum Halt {
 }
 
 impl From<AllocError> for Halt {
+    ghost use Rattle.work.specs.declared.running.Halt.TheVariants.{Memory};
+
+    ghost from_gives = { λ _ h. h ≡ Memory };
+
     fn from(_e: AllocError) -> Halt {
         Halt::Memory
     }
 }
 
 impl<T: Drop> From<AllocFailed<T>> for Halt {
+    ghost use Rattle.work.specs.declared.running.Halt.TheVariants.{Memory};
+
+    ghost from_gives = { λ _ h. h ≡ Memory };
+
     fn from(_e: AllocFailed<T>) -> Halt {
         Halt::Memory
     }
@@ -28,19 +38,29 @@ impl<T: Drop> From<AllocFailed<T>> for Halt {
 
 // A text that grows fails for want of memory alone.
 impl From<fmt::Error> for Halt {
+    ghost use Rattle.work.specs.declared.running.Halt.TheVariants.{Memory};
+
+    ghost from_gives = { λ _ h. h ≡ Memory };
+
     fn from(_e: fmt::Error) -> Halt {
         Halt::Memory
     }
 }
 
 impl From<io::Error> for Halt {
+    ghost use Rattle.work.specs.declared.running.Halt.TheVariants.{Broken};
+
+    ghost from_gives = { λ e h. h ≡ Broken e };
+
     fn from(e: io::Error) -> Halt {
         Halt::Broken(e)
     }
 }
 
-// The words after the program's name.
-pub fn arguments(rt: &HostRuntime) -> Result<Vec<String>, Halt> {
+// The words after the program's name. Where they cannot be had, no work is called faulty.
+pub fn arguments(rt: &HostRuntime) -> Result<Vec<String>, Halt>
+    ensures { IfErr result (λ h. h ≢ Halt.Faulty) }
+{
     let mut words = Vec::new(rt.alloc());
     for word in env::args(rt)?.skip(1) {
         words.push(word)?;
@@ -79,7 +99,10 @@ fn look_at(rt: &HostRuntime, path: &str) -> Result<Option<Work>, Halt> {
 }
 
 // Every file is looked at, and its faults named, also behind one that is faulty.
-fn look_at_all(rt: &HostRuntime, paths: &[String]) -> Result<Vec<Work>, Halt> {
+fn look_at_all(rt: &HostRuntime, paths: &[String]) -> Result<Vec<Work>, Halt>
+    ensures none { length paths.now ≡ 0 → IsOk result }
+    ensures within { IfOk result (λ works. length works.items ≤ length paths.now) }
+{
     let mut works = Vec::new(rt.alloc());
     for path in paths {
         if let Some(work) = look_at(rt, path.as_str())? {
@@ -89,20 +112,20 @@ fn look_at_all(rt: &HostRuntime, paths: &[String]) -> Result<Vec<Work>, Halt> {
     Ok(works)
 }
 
-fn carry_out_all(rt: &HostRuntime, paths: &[String]) -> Result<(), Halt> {
+fn carry_out_all(rt: &HostRuntime, paths: &[String]) -> Result<(), Halt>
+    ensures { length paths.now ≡ 0 → IsOk result }
+{
     let works = look_at_all(rt, paths)?;
     if works.len() < paths.len() {
         return Err(Halt::Faulty);
     }
-    for work in works.iter() {
-        let out = carry_out(rt.alloc(), work.commands.as_slice())?;
-        rt.stdout().write_all(out.as_bytes())?;
-    }
-    Ok(())
+    write_works(rt.alloc(), &works, &mut rt.stdout())
 }
 
-// Carries out work files, each by itself, once no line of any is faulty.
-pub fn run_files(rt: &HostRuntime, paths: &[String]) -> Result<(), Halt> {
+// Carries out work files, each by itself, once no line of any is faulty. Where there are none, nothing fails.
+pub fn run_files(rt: &HostRuntime, paths: &[String]) -> Result<(), Halt>
+    ensures { length paths.now ≡ 0 → IsOk result }
+{
     let ran = carry_out_all(rt, paths);
     match &ran {
         Ok(()) | Err(Halt::Faulty) => {}
