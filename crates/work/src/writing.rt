@@ -1,5 +1,5 @@
 // Writing what work files print, to whatever takes octets.
-ghost use Rattle.std.specs.Prelude.{◌≡◌, length, IsOk, OnOk};
+ghost use Rattle.std.specs.Prelude.{◌≡◌, ◌≢◌, length, IfErr, IsOk, OnOk};
 ghost use Rattle.std.specs.Io.KnownBytes.{Appends};
 ghost use Rattle.work.specs.Answers.{works_text};
 
@@ -14,6 +14,7 @@ use workfile::reading::Work;
 pub fn write_works<W: Write>(heap: Global, works: &[Work], out: &mut W) -> Result<(), Halt>
     ensures written { OnOk result (Appends (W.contents out.old) (W.contents out.new) (works_text works.now)) }
     ensures none { length works.now ≡ 0 → IsOk result }
+    ensures error { IfErr result (λ h. h ≢ Halt.Faulty) }
 {
     for work in works {
         let text = carry_out(heap, work.commands.as_slice())?;
