@@ -1,70 +1,76 @@
 // Signature algorithms, compared whole.
 ghost use Rattle.std.specs.Prelude.{◌≡◌};
-ghost use Rattle.der.specs.Reads.{left_of, told, mapped};
+ghost use Rattle.std.specs.Result.{result_ok};
+ghost use Rattle.der.specs.Reads.{told, mapped};
 ghost use Rattle.algorithm.specs.Algorithms.{algorithm_code, algorithm_octets, algorithm_in, algorithm_at, again_at};
 
-use der::cursor::*;
 use der::reader::*;
 use items::item::*;
 use refusals::grounds::*;
 
 // The AlgorithmIdentifiers that are admitted, as they stand in a list.
-pub const SHA1_WITH_RSA: [u8; 15] = [
+pub const SHA1_WITH_RSA: &[u8] = &[
     0x30, 0x0d, 0x06, 0x09, 0x2a, 0x86, 0x48, 0x86, 0xf7, 0x0d, 0x01, 0x01, 0x05, 0x05, 0x00,
 ];
 
-pub const SHA256_WITH_RSA: [u8; 15] = [
+pub const SHA256_WITH_RSA: &[u8] = &[
     0x30, 0x0d, 0x06, 0x09, 0x2a, 0x86, 0x48, 0x86, 0xf7, 0x0d, 0x01, 0x01, 0x0b, 0x05, 0x00,
 ];
 
-pub const HMAC_WITH_SHA256: [u8; 14] = [
+pub const HMAC_WITH_SHA256: &[u8] = &[
     0x30, 0x0c, 0x06, 0x08, 0x2a, 0x86, 0x48, 0x86, 0xf7, 0x0d, 0x02, 0x09, 0x05, 0x00,
 ];
 
 // How a list is signed.
-#[derive(Clone, Copy)]
+#[derive(Clone, Copy, Debug, PartialEq, Eq)]
 pub enum Algorithm {
-    Sha1WithRsa,
-    Sha256WithRsa,
-    HmacWithSha256,
+    Sha1WithRsa = 1,
+    Sha256WithRsa = 2,
+    HmacWithSha256 = 3,
+}
+
+// No algorithm that is admitted.
+#[derive(Clone, Copy, Debug, PartialEq, Eq)]
+pub struct NotAdmitted;
+
+// The code of an algorithm.
+impl From<Algorithm> for u8 {
+    ghost from_gives = { λ algorithm n. n ≡ algorithm_code algorithm };
+
+    fn from(algorithm: Algorithm) -> u8 {
+        algorithm as u8
+    }
+}
+
+// The algorithm with this AlgorithmIdentifier, if it is admitted.
+impl<'a> TryFrom<&'a [u8]> for Algorithm {
+    type Error = NotAdmitted;
+
+    ghost try_from_gives = { λ octets r. result_ok r ≡ algorithm_in octets.now };
+
+    #[tactic(auto, unfolding(crate::specs::Algorithms::algorithm_in))]
+    fn try_from(octets: &'a [u8]) -> Result<Algorithm, NotAdmitted> {
+        if octets == SHA1_WITH_RSA {
+            Ok(Algorithm::Sha1WithRsa)
+        } else if octets == SHA256_WITH_RSA {
+            Ok(Algorithm::Sha256WithRsa)
+        } else if octets == HMAC_WITH_SHA256 {
+            Ok(Algorithm::HmacWithSha256)
+        } else {
+            Err(NotAdmitted)
+        }
+    }
 }
 
 impl Algorithm {
-    // The code of the algorithm.
-    pub fn code(self) -> u8
-        ensures { result ≡ algorithm_code self }
-    {
-        match self {
-            Algorithm::Sha1WithRsa => 1,
-            Algorithm::Sha256WithRsa => 2,
-            Algorithm::HmacWithSha256 => 3,
-        }
-    }
-
     // Its AlgorithmIdentifier.
     pub fn octets(self) -> &'static [u8]
         ensures { result.now ≡ algorithm_octets self }
     {
         match self {
-            Algorithm::Sha1WithRsa => &SHA1_WITH_RSA,
-            Algorithm::Sha256WithRsa => &SHA256_WITH_RSA,
-            Algorithm::HmacWithSha256 => &HMAC_WITH_SHA256,
-        }
-    }
-
-    // The algorithm with this AlgorithmIdentifier, if it is admitted.
-    #[tactic(auto, unfolding(crate::specs::Algorithms::algorithm_in))]
-    pub fn from_octets(octets: &[u8]) -> Option<Algorithm>
-        ensures { result ≡ algorithm_in octets.now }
-    {
-        if same(octets, &SHA1_WITH_RSA) {
-            Some(Algorithm::Sha1WithRsa)
-        } else if same(octets, &SHA256_WITH_RSA) {
-            Some(Algorithm::Sha256WithRsa)
-        } else if same(octets, &HMAC_WITH_SHA256) {
-            Some(Algorithm::HmacWithSha256)
-        } else {
-            None
+            Algorithm::Sha1WithRsa => SHA1_WITH_RSA,
+            Algorithm::Sha256WithRsa => SHA256_WITH_RSA,
+            Algorithm::HmacWithSha256 => HMAC_WITH_SHA256,
         }
     }
 }
@@ -72,24 +78,23 @@ impl Algorithm {
 // The algorithm in the signed block.
 #[tactic(auto, unfolding(crate::specs::Algorithms::algorithm_at))]
 pub fn read_algorithm(reader: &mut Reader) -> Result<Algorithm, Fault>
-    ensures { told (λ a. a) result reader.new ≡ algorithm_at (left_of reader.old) }
+    ensures { told (λ a. a) result reader.new ≡ algorithm_at reader.old }
 {
-    let offset = reader.offset;
+    let offset = reader.offset();
     let item = reader.raw()?;
-    match Algorithm::from_octets(item.octets) {
-        Some(found) => Ok(found),
-        None => Err(unexpected(offset)),
-    }
+    Algorithm::try_from(item.octets)
+        .ok()
+        .ok_or(unexpected(offset))
 }
 
 // The algorithm behind the signed block, which must be the block's, octet for octet.
 #[tactic(auto, unfolding(crate::specs::Algorithms::again_at))]
 pub fn algorithm_again(reader: &mut Reader, algorithm: Algorithm) -> Result<(), Fault>
-    ensures { told (λ u. u) result reader.new ≡ again_at algorithm (left_of reader.old) }
+    ensures { told (λ u. u) result reader.new ≡ again_at algorithm reader.old }
 {
-    let offset = reader.offset;
+    let offset = reader.offset();
     let item = reader.raw()?;
-    if !same(item.octets, algorithm.octets()) {
+    if item.octets != algorithm.octets() {
         return Err(unexpected(offset));
     }
     Ok(())

@@ -1,37 +1,36 @@
 // The signed block (TBSCertList).
 ghost use Rattle.std.specs.Prelude.{◌≡◌};
-ghost use Rattle.der.specs.Reads.{left_of, told};
+ghost use Rattle.der.specs.Reads.{told};
 ghost use Rattle.items.specs.Parts.{piece_of};
 ghost use Rattle.block.specs.Blocks.{lines_of, list_told_of, held_of, version_at, entries_at, told_at, context_at, block_at};
 
 use algorithm::identifiers::*;
-use der::cursor::*;
 use der::reader::*;
 use elements::walk::*;
 use entry::entries::*;
 use entry::times::*;
 use extension::extensions::*;
+use extension::reading::*;
 use items::header::*;
 use items::item::*;
 use refusals::grounds::*;
-use telling::told::*;
 
 // Where the entries stand, if there are any, and how many.
-#[derive(Clone, Copy)]
+#[derive(Clone, Copy, Debug, PartialEq, Eq)]
 pub struct Entries<'a> {
     pub run: Option<Part<'a>>,
     pub count: usize,
 }
 
 // What the list's extensions tell.
-#[derive(Clone, Copy)]
+#[derive(Clone, Copy, Debug, PartialEq, Eq)]
 pub struct ListTold<'a> {
     pub number: Part<'a>,
     pub expired: Option<u64>,
 }
 
 // What the signed block says.
-#[derive(Clone, Copy)]
+#[derive(Clone, Copy, Debug, PartialEq, Eq)]
 pub struct Block<'a> {
     pub algorithm: Algorithm,
     pub issuer: Part<'a>,
@@ -41,22 +40,26 @@ pub struct Block<'a> {
     pub told: ListTold<'a>,
 }
 
+// The content of the INTEGER 1.
+const ONE: &[u8] = &[1];
+
 // The version: INTEGER 1.
 #[tactic(auto, unfolding(crate::specs::Blocks::version_at))]
 fn version(reader: &mut Reader) -> Result<(), Fault>
-    ensures { told (λ u. u) result reader.new ≡ version_at (left_of reader.old) }
+    ensures { told (λ u. u) result reader.new ≡ version_at reader.old }
 {
-    let offset = reader.offset;
+    let offset = reader.offset();
     let content = reader.expect(INTEGER)?;
-    if !same(content.octets, &[1]) {
+    if content.octets != ONE {
         return Err(unexpected(offset));
     }
     Ok(())
 }
 
 // The entries, if the next item is a SEQUENCE.
+#[tactic(auto, unfolding(crate::specs::Blocks::entries_at))]
 fn find_entries<'a>(reader: &mut Reader<'a>) -> Result<Entries<'a>, Fault>
-    ensures { told lines_of result reader.new ≡ entries_at (left_of reader.old) }
+    ensures { told lines_of result reader.new ≡ entries_at reader.old }
 {
     if !reader.next_is(SEQUENCE) {
         return Ok(Entries {
@@ -64,49 +67,38 @@ fn find_entries<'a>(reader: &mut Reader<'a>) -> Result<Entries<'a>, Fault>
             count: 0,
         });
     }
-    let content = reader.expect(SEQUENCE)?;
-    let mut inner = Reader {
-        rest: content.octets,
-        offset: content.offset,
-    };
-    let mut state = Plain {};
+    let mut inner = reader.open(SEQUENCE)?;
+    let run = inner.rest();
+    let mut state = Plain;
     let count = walk::<Plain, Entry>(&mut inner, &mut state, &mut [])?;
     Ok(Entries {
-        run: Some(content),
+        run: Some(run),
         count,
     })
 }
 
 // The list's extensions, of which the number is one.
+#[tactic(auto, unfolding(crate::specs::Blocks::told_at, extension::specs::Extensions::told_by))]
 fn list_told<'a>(reader: &mut Reader<'a>) -> Result<ListTold<'a>, Fault>
-    ensures { told list_told_of result reader.new ≡ told_at (left_of reader.old) }
+    ensures { told list_told_of result reader.new ≡ told_at reader.old }
 {
-    let content = reader.expect(SEQUENCE)?;
-    let mut inner = Reader {
-        rest: content.octets,
-        offset: content.offset,
-    };
-    let mut state = InList { told: untold() };
-    let _count = walk::<InList, Extension>(&mut inner, &mut state, &mut [])?;
-    match state.told.number {
-        None => Err(unexpected(content.offset + content.octets.len())),
-        Some(number) => Ok(ListTold {
-            number,
-            expired: state.told.expired,
-        }),
-    }
+    let extensions = reader.open(SEQUENCE)?;
+    let run = extensions.rest();
+    let told = read_told(extensions, InList)?;
+    let end = run.offset + run.octets.len();
+    let number = told.number.ok_or(unexpected(end))?;
+    Ok(ListTold {
+        number,
+        expired: told.expired,
+    })
 }
 
 // The item with tag A0 around the list's extensions.
 #[tactic(auto, unfolding(crate::specs::Blocks::context_at))]
 fn context<'a>(reader: &mut Reader<'a>) -> Result<ListTold<'a>, Fault>
-    ensures { told list_told_of result reader.new ≡ context_at (left_of reader.old) }
+    ensures { told list_told_of result reader.new ≡ context_at reader.old }
 {
-    let content = reader.expect(CONTEXT_0)?;
-    let mut inner = Reader {
-        rest: content.octets,
-        offset: content.offset,
-    };
+    let mut inner = reader.open(CONTEXT_0)?;
     let told = list_told(&mut inner)?;
     inner.end()?;
     Ok(told)
@@ -115,7 +107,7 @@ fn context<'a>(reader: &mut Reader<'a>) -> Result<ListTold<'a>, Fault>
 // The content of the signed block.
 #[tactic(auto, unfolding(crate::specs::Blocks::block_at))]
 pub fn read_block<'a>(reader: &mut Reader<'a>) -> Result<Block<'a>, Fault>
-    ensures { told held_of result reader.new ≡ block_at (left_of reader.old) }
+    ensures { told held_of result reader.new ≡ block_at reader.old }
 {
     version(reader)?;
     let algorithm = read_algorithm(reader)?;

@@ -6,7 +6,7 @@ ghost use Rattle.entry.specs.Entries.{line_of};
 ghost use Rattle.list.specs.Lists.{Listing, listing_of};
 ghost use Rattle.crl.specs.Law.{read_of, answered, Keeps, ListsApart, EntriesStand, entry_in, first_in, rest_in};
 
-use der::cursor::*;
+use der::reader::*;
 use entry::entries::*;
 use items::item::*;
 use list::signed::*;
@@ -38,10 +38,7 @@ fn read_by_meaning(octets: &[u8]) -> Result<RevocationList, Refusal>
             offset: 0,
         });
     }
-    match whole_list(octets) {
-        Ok(list) => Ok(list),
-        Err(fault) => Err(fault.within(Input::List)),
-    }
+    whole_list(octets).map_err(|fault| fault.within(Input::List))
 }
 
 // Takes the first entry off a run of entries.
@@ -50,19 +47,8 @@ pub fn next_entry<'a>(run: &mut Part<'a>) -> Option<Entry<'a>>
     ensures entry { mapped line_of result ≡ first_in (entry_in (piece_of run.old)) }
     ensures rest { piece_of run.new ≡ rest_in (piece_of run.old) (entry_in (piece_of run.old)) }
 {
-    run.offset.checked_add(run.octets.len())?;
-    let mut reader = Reader {
-        rest: run.octets,
-        offset: run.offset,
-    };
-    match read_entry(&mut reader) {
-        Ok(entry) => {
-            *run = Part {
-                octets: reader.rest,
-                offset: reader.offset,
-            };
-            Some(entry)
-        }
-        Err(_) => None,
-    }
+    let mut reader = Reader::of(*run)?;
+    let entry = read_entry(&mut reader).ok()?;
+    *run = reader.rest();
+    Some(entry)
 }

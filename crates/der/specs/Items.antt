@@ -1,7 +1,7 @@
 -- The item in front of the octets. Assumes nothing.
 use Rattle.std.specs.Prelude.{ℕ, ◌+◌, Bool, cond, ◌&&◌, length, take, drop, Some, None, Ok, Err, Option, Result, ◌==◌, nat_lt, slice_index}
 use Rattle.items.specs.declared.item.Head.{Head}
-use Rattle.der.specs.declared.cursor.Whole.{Whole}
+use Rattle.der.specs.declared.reader.Whole.{Whole}
 use Rattle.refusals.specs.Refusals.{Flaw, flaw}
 use Rattle.der.specs.Reads.{Left, Got, Reads, got, bind, then, start_of, between}
 use Rattle.items.specs.Parts.{Piece, piece_of}

@@ -1,7 +1,6 @@
 -- Reading: what is left, what was got. Assumes nothing.
-use Rattle.std.specs.Prelude.{ℕ, ◌-◌, List, length, take, Some, None, Ok, Err, Option, Result}
+use Rattle.std.specs.Prelude.{ℕ, ◌+◌, ◌-◌, ◌≤◌, List, length, take, Some, None, Ok, Err, Option, Result}
 use Rattle.refusals.specs.declared.grounds.Fault.{Fault}
-use Rattle.der.specs.declared.cursor.Reader.{Reader}
 use Rattle.refusals.specs.Refusals.{Flaw, flaw_of}
 use Rattle.items.specs.Parts.{Piece}
 
@@ -45,18 +44,22 @@ start_of p = record { rest = p.octets; offset = p.offset }
 abbrev pub between : Left → Left → Piece
 between s t = record { octets = take (length s.rest - length t.rest) s.rest; offset = s.offset }
 
--- what the code's values say, without references
-abbrev pub left_of : Reader → Left
-left_of c = record { rest = c.rest.now; offset = c.offset }
+-- what is left, as a part
+abbrev pub part_left : Left → Piece
+part_left s = record { octets = s.rest; offset = s.offset }
+
+-- an item has two octets or more, and so much less is left after it
+abbrev pub PastAnItem : Left → Left → Type 0
+PastAnItem s t = length t.rest + 2 ≤ length s.rest
 
 abbrev pub mapped : {X V : Type 0} → (X → V) → Option X → Option V
 mapped f None = None
 mapped f (Some x) = Some (f x)
 
 -- what a call that reads tells: its result, and what is left
-abbrev pub told : {X V : Type 0} → (X → V) → Result X Fault → Reader → Result (Got V) Flaw
-told f (Ok x) c = Ok (got (f x) (left_of c))
-told f (Err e) c = Err (flaw_of e)
+abbrev pub told : {X V : Type 0} → (X → V) → Result X Fault → Left → Result (Got V) Flaw
+told f (Ok x) s = Ok (got (f x) s)
+told f (Err e) s = Err (flaw_of e)
 
 -- what a call that reads with a state tells: its result, the state, and what is left
 abbrev pub told_both : {X V S T : Type 0} → (X → V) → (S → T) → Result X Fault → S → Left → Result (Got (Both V T)) Flaw

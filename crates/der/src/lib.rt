@@ -1,5 +1,4 @@
 // The reader of DER: octets, item by item.
 #![tactic(auto)]
 
-pub mod cursor;
 pub mod reader;

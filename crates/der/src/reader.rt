@@ -1,92 +1,156 @@
 // The reader: goes over the octets item by item, front to back, and stops at the first fault.
-ghost use Rattle.std.specs.Prelude.{◌≡◌, ℕ, ◌+◌, ◌-◌, ◌^◌, ◌<◌, ◌≤◌, length, take, IfOk, OnErr, OnOk};
-ghost use Rattle.std.specs.Str.{bytes_eq};
-ghost use Rattle.der.specs.Reads.{left_of, told, seen};
+ghost use Rattle.std.specs.Prelude.{◌≡◌, ℕ, ◌+◌, ◌-◌, ◌^◌, ◌<◌, ◌≤◌, ◌↔◌, length, take, drop, IfOk, OnErr, OnOk, IfSome, IsNone, IsTrue};
+ghost use Rattle.der.specs.Reads.{told, seen, start_of, between, part_left, PastAnItem};
 ghost use Rattle.items.specs.Parts.{piece_of};
 ghost use Rattle.refusals.specs.Refusals.{flaw_of, fault_at};
 ghost use Rattle.der.specs.Items.{item_at, expect_at, whole_at, raw_at, name_at, end_at, next_is, wholly_of};
 ghost use Rattle.items.specs.Things.{thing_of, item_number, number_of_tag};
 
-use super::cursor::*;
 use items::header::*;
 use items::item::*;
 use refusals::grounds::*;
+use std::marker::Model;
 
-// Whether two runs of octets are the same.
-pub fn same(a: &[u8], b: &[u8]) -> bool
-    ensures { result ≡ bytes_eq a.now b.now }
-{
-    a == b
+// What is left to read of some lent octets, and the offset at which that begins. Offsets up to the end fit a usize.
+#[derive(Drop)]
+pub struct Reader<'a> {
+    rest: &'a [u8],
+    offset: usize,
 }
 
-// The octets without the last `left` of them, as the part that begins at the offset.
-pub(crate) fn front(octets: &[u8], left: usize, offset: usize) -> Part
-    ensures { piece_of result ≡ record { octets = take (length octets.entry.now - left) octets.entry.now; offset = offset } }
-{
-    let (octets, _) = octets.split_at(octets.len().saturating_sub(left));
-    Part { octets, offset }
+impl<'a> Model for Reader<'a> {
+    ghost use Rattle.std.specs.Prelude.{◌+◌, ◌^◌, ◌<◌, length};
+    ghost use Rattle.der.specs.Reads.{Left};
+
+    ghost Value = { Left };
+
+    ghost view = { λ r. record { rest = r.rest.now; offset = r.offset } };
+
+    ghost invariant = { λ r. r.offset + length r.rest.now < 2 ^ 64 };
+}
+
+// An item as it stands, tag and length included, and by its content.
+#[derive(Clone, Copy, Debug, PartialEq, Eq)]
+pub struct Whole<'a> {
+    pub item: Part<'a>,
+    pub content: Part<'a>,
 }
 
 // The fault of an item that is missing, extra or not the one laid down.
 pub fn unexpected(offset: usize) -> Fault
     ensures { result ≡ fault_at Ground.Unexpected offset }
 {
-    Fault {
-        ground: Ground::Unexpected,
-        offset,
-    }
+    Ground::Unexpected.at(offset)
 }
 
 impl<'a> Reader<'a> {
+    // Reads the octets from their front on.
+    pub fn new(octets: &'a [u8]) -> Reader<'a>
+        ensures { result ≡ record { rest = octets.now; offset = 0 } }
+    {
+        Reader {
+            rest: octets,
+            offset: 0,
+        }
+    }
+
+    // Reads the octets from an offset on: none past their end.
+    pub fn from_offset(octets: &'a [u8], offset: usize) -> Option<Reader<'a>>
+        ensures from { IfSome result (λ r. r ≡ record { rest = drop offset octets.now; offset = offset }) }
+        ensures none { IsNone result ↔ (length octets.now < offset) }
+    {
+        let rest = octets.get(offset..)?;
+        Some(Reader { rest, offset })
+    }
+
+    // Reads a part from its front on: none where the offset of its end is no usize.
+    pub fn of(part: Part<'a>) -> Option<Reader<'a>>
+        ensures of { IfSome result (λ r. r ≡ start_of (piece_of part.entry)) }
+        ensures none { IsNone result ↔ (2 ^ 64 ≤ part.entry.offset + length part.entry.octets.now) }
+    {
+        part.offset.checked_add(part.octets.len())?;
+        Some(Reader {
+            rest: part.octets,
+            offset: part.offset,
+        })
+    }
+
+    // The offset of what is left.
+    pub fn offset(&self) -> usize
+        ensures { result ≡ self.now.offset }
+    {
+        self.offset
+    }
+
+    // How many octets are left.
+    pub fn len(&self) -> usize
+        ensures { result ≡ length self.now.rest }
+    {
+        self.rest.len()
+    }
+
+    // Whether nothing is left.
+    pub fn is_empty(&self) -> bool
+        ensures { IsTrue result ↔ (length self.now.rest ≡ 0) }
+    {
+        self.rest.is_empty()
+    }
+
+    // What is left, as a part.
+    pub fn rest(&self) -> Part<'a>
+        ensures part { piece_of result ≡ part_left self.now }
+        ensures within { result.offset + length result.octets.now < 2 ^ 64 }
+    {
+        Part {
+            octets: self.rest,
+            offset: self.offset,
+        }
+    }
+
+    // What was read since this was left.
+    pub fn since(&self, before: Part<'a>) -> Part<'a>
+        ensures { piece_of result ≡ between (start_of (piece_of before.entry)) self.now }
+    {
+        let read = before.octets.len().saturating_sub(self.rest.len());
+        let (octets, _) = before.octets.split_at(read);
+        Part {
+            octets,
+            offset: before.offset,
+        }
+    }
+
     // Reads the item in front and goes past it.
     #[tactic(auto, unfolding(crate::specs::Items::item_at))]
     pub fn item(&mut self, laid: Laid) -> Result<Item<'a>, Fault>
-        ensures read { told thing_of result self.new ≡ item_at (left_of self.old) }
-        ensures stays { OnErr result (left_of self.new ≡ left_of self.old) }
+        ensures read { told thing_of result self.new ≡ item_at self.old }
+        ensures stays { OnErr result (self.new ≡ self.old) }
         ensures number { IfOk result (λ i. item_number i ≡ number_of_tag laid (thing_of i).tag) }
         ensures within { IfOk result (λ i. (thing_of i).content.offset + length (thing_of i).content.octets < 2 ^ 64) }
-        ensures long { OnOk result (length self.new.rest.now + 2 ≤ length self.old.rest.now) }
+        ensures long { OnOk result (PastAnItem self.old self.new) }
     {
         let offset = self.offset;
-        if self.rest.len() == 0 {
-            return Err(unexpected(offset));
+        let tag = *self.rest.first().ok_or(unexpected(offset))?;
+        let found = head(self.rest).ok_or(Ground::Malformed.at(offset))?;
+        let (_, after) = self.rest.split_at(found.start);
+        let (octets, rest) = after.split_at(found.len);
+        if !is_shortest(tag, octets) {
+            return Err(Ground::Malformed.at(offset));
         }
-        match head(self.rest) {
-            None => Err(Fault {
-                ground: Ground::Malformed,
-                offset,
-            }),
-            Some(h) => {
-                let tag = self.rest[0];
-                let (_, after) = self.rest.split_at(h.start);
-                let (octets, rest) = after.split_at(h.len);
-                if !is_shortest(tag, octets) {
-                    return Err(Fault {
-                        ground: Ground::Malformed,
-                        offset,
-                    });
-                }
-                self.rest = rest;
-                self.offset = offset + h.start + h.len;
-                Ok(Item::of(
-                    laid,
-                    tag,
-                    offset,
-                    Part {
-                        octets,
-                        offset: offset + h.start,
-                    },
-                ))
-            }
-        }
+        let content = Part {
+            octets,
+            offset: offset + found.start,
+        };
+        self.rest = rest;
+        self.offset = content.offset + found.len;
+        Ok(Item::of(laid, tag, offset, content))
     }
 
     // Reads the item in front, which must have the tag, and gives its content.
     #[tactic(auto, unfolding(crate::specs::Items::expect_at))]
     pub fn expect(&mut self, tag: u8) -> Result<Part<'a>, Fault>
-        ensures read { told piece_of result self.new ≡ expect_at tag (left_of self.old) }
+        ensures read { told piece_of result self.new ≡ expect_at tag self.old }
         ensures within { IfOk result (λ p. p.offset + length p.octets.now < 2 ^ 64) }
-        ensures long { OnOk result (length self.new.rest.now + 2 ≤ length self.old.rest.now) }
+        ensures long { OnOk result (PastAnItem self.old self.new) }
     {
         let offset = self.offset;
         let item = self.item(Laid::Any)?;
@@ -95,21 +159,30 @@ impl<'a> Reader<'a> {
         }
         Ok(item.content())
     }
-}
 
-impl<'a> Reader<'a> {
+    // Reads the item in front, which must have the tag, and gives a reader of its content.
+    pub fn open(&mut self, tag: u8) -> Result<Reader<'a>, Fault>
+        ensures read { told part_left result self.new ≡ expect_at tag self.old }
+        ensures long { OnOk result (PastAnItem self.old self.new) }
+    {
+        let content = self.expect(tag)?;
+        Ok(Reader {
+            rest: content.octets,
+            offset: content.offset,
+        })
+    }
+
     // Reads the item in front, which must have the tag, and gives it as it stands and by its content.
     #[tactic(auto, unfolding(crate::specs::Items::whole_at))]
     pub fn whole(&mut self, tag: u8) -> Result<Whole<'a>, Fault>
-        ensures read { told wholly_of result self.new ≡ whole_at tag (left_of self.old) }
+        ensures read { told wholly_of result self.new ≡ whole_at tag self.old }
         ensures within { IfOk result (λ w. w.content.offset + length w.content.octets.now < 2 ^ 64) }
-        ensures long { OnOk result (length self.new.rest.now + 2 ≤ length self.old.rest.now) }
+        ensures long { OnOk result (PastAnItem self.old self.new) }
     {
-        let offset = self.offset;
-        let before = self.rest;
+        let before = self.rest();
         let content = self.expect(tag)?;
         Ok(Whole {
-            item: front(before, self.rest.len(), offset),
+            item: self.since(before),
             content,
         })
     }
@@ -117,51 +190,47 @@ impl<'a> Reader<'a> {
     // Reads the item in front, whatever its tag, and gives it as it stands.
     #[tactic(auto, unfolding(crate::specs::Items::raw_at))]
     pub fn raw(&mut self) -> Result<Part<'a>, Fault>
-        ensures { told piece_of result self.new ≡ raw_at (left_of self.old) }
+        ensures { told piece_of result self.new ≡ raw_at self.old }
     {
-        let offset = self.offset;
-        let before = self.rest;
-        let _item = self.item(Laid::Any)?;
-        Ok(front(before, self.rest.len(), offset))
+        let before = self.rest();
+        self.item(Laid::Any)?;
+        Ok(self.since(before))
     }
 
     // Reads a name: a SEQUENCE with content, which is not opened.
     #[tactic(auto, unfolding(crate::specs::Items::name_at, crate::specs::Items::whole_at, crate::specs::Items::expect_at))]
     pub fn name(&mut self) -> Result<Part<'a>, Fault>
-        ensures read { told piece_of result self.new ≡ name_at (left_of self.old) }
-        ensures long { OnOk result (length self.new.rest.now + 2 ≤ length self.old.rest.now) }
+        ensures read { told piece_of result self.new ≡ name_at self.old }
+        ensures long { OnOk result (PastAnItem self.old self.new) }
     {
-        let offset = self.offset;
-        let before = self.rest;
+        let before = self.rest();
         match self.item(Laid::Name)? {
-            Item::Name { offset: _, content } => {
-                if content.octets.len() == 0 {
-                    return Err(unexpected(content.offset));
-                }
-                Ok(front(before, self.rest.len(), offset))
+            Item::Name { content, .. } if content.octets.is_empty() => {
+                Err(unexpected(content.offset))
             }
-            _ => Err(unexpected(offset)),
+            Item::Name { .. } => Ok(self.since(before)),
+            _ => Err(unexpected(before.offset)),
         }
     }
 
     // Nothing may be left: an item that is left is one too many, if it is an item at all.
     #[tactic(auto, unfolding(crate::specs::Items::end_at))]
     pub fn end(&mut self) -> Result<(), Fault>
-        ensures end { seen (λ u. u) result ≡ end_at (left_of self.old) }
-        ensures still { OnOk result (left_of self.new ≡ left_of self.old) }
+        ensures end { seen (λ u. u) result ≡ end_at self.old }
+        ensures still { OnOk result (self.new ≡ self.old) }
     {
         let offset = self.offset;
-        if self.rest.len() == 0 {
+        if self.rest.is_empty() {
             return Ok(());
         }
-        let _item = self.item(Laid::Any)?;
+        self.item(Laid::Any)?;
         Err(unexpected(offset))
     }
 
     // Whether the next item begins with the tag.
     pub fn next_is(&self, tag: u8) -> bool
-        ensures { result ≡ next_is tag (left_of self.now) }
+        ensures { result ≡ next_is tag self.now }
     {
-        self.rest.len() > 0 && self.rest[0] == tag
+        self.rest.first() == Some(&tag)
     }
 }

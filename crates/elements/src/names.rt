@@ -4,12 +4,12 @@ ghost use Rattle.der.specs.Reads.{told_both};
 ghost use Rattle.elements.specs.Names.{name_of, plain_of, name_step};
 
 use super::walk::*;
-use der::cursor::*;
+use der::reader::*;
 use items::item::*;
 use refusals::grounds::*;
 
 // A name, as it stands. Names are told apart by their octets alone.
-#[derive(Clone, Copy)]
+#[derive(Clone, Copy, Debug, PartialEq, Eq)]
 pub struct Name<'a> {
     pub item: Part<'a>,
 }

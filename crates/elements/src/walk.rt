@@ -1,11 +1,10 @@
 // Elements that can be read, and the one walk over a run of them.
-ghost use Rattle.std.specs.Prelude.{◌≡◌, ℕ, ◌+◌, ◌≤◌, length, Result, OnOk};
+ghost use Rattle.std.specs.Prelude.{◌≡◌, ℕ, Result, OnOk};
 ghost use Rattle.refusals.specs.declared.grounds.Fault.{Fault as Flawed};
-ghost use Rattle.der.specs.Reads.{Left, left_of};
+ghost use Rattle.der.specs.Reads.{Left, PastAnItem};
 ghost use Rattle.elements.specs.Runs.{Walked, kept};
 
-use der::cursor::*;
-use items::item::*;
+use der::reader::*;
 use refusals::grounds::*;
 
 // A kind of element that can be read. What the elements before it in its run have told is a state: one type of element
@@ -15,13 +14,13 @@ pub trait Readable<'a, S>: Sized {
     ghost means: { S → Left → Result Self Flawed → S → Left → Type 0 };
 
     fn read(reader: &mut Reader<'a>, state: &mut S) -> Result<Self, Fault>
-        ensures read { means state.old (left_of reader.old) result state.new (left_of reader.new) }
-        ensures long { OnOk result (length reader.new.rest.now + 2 ≤ length reader.old.rest.now) };
+        ensures read { means state.old reader.old result state.new reader.new }
+        ensures long { OnOk result (PastAnItem reader.old reader.new) };
 }
 
 // No state: whatever stood before, the same may follow.
-#[derive(Clone, Copy)]
-pub struct Plain {}
+#[derive(Clone, Copy, Debug, PartialEq, Eq)]
+pub struct Plain;
 
 // Keeps the element at its place, where the memory has that place.
 fn keep<E: Drop>(out: &mut [E], at: usize, element: E)
@@ -39,14 +38,17 @@ pub fn walk<'a, S, E: Readable<'a, S> + Drop>(
     state: &mut S,
     out: &mut [E],
 ) -> Result<usize, Fault>
-    ensures { Walked E.Readable.means state.old (left_of reader.old) result state.new (left_of reader.new) out.old out.new }
+    ensures { Walked E.Readable.means state.old reader.old result state.new reader.new out.old out.new }
 {
+    // An element takes octets, so that there are no more of them than octets.
+    let most = reader.len();
     let mut count = 0;
     loop {
         let element = E::read(reader, state)?;
         keep(out, count, element);
+        prove!(count < most);
         count += 1;
-        if reader.rest.len() == 0 {
+        if reader.is_empty() {
             return Ok(count);
         }
     }

@@ -1,44 +1,46 @@
 // Entries as a kind of element.
-ghost use Rattle.std.specs.Prelude.{◌≡◌, ◌+◌, ◌≤◌, length, OnOk};
-ghost use Rattle.der.specs.Reads.{left_of, told, told_both, mapped};
+ghost use Rattle.std.specs.Prelude.{◌≡◌, OnOk};
+ghost use Rattle.der.specs.Reads.{told, told_both, mapped, PastAnItem};
 ghost use Rattle.items.specs.Parts.{piece_of};
 ghost use Rattle.elements.specs.Names.{plain_of};
 ghost use Rattle.telling.specs.Reasons.{reason_number};
 ghost use Rattle.entry.specs.Entries.{line_of, serial_is, serial_at, reasons_at, entry_body_at, entry_at, entry_step};
 
 use super::times::*;
-use der::cursor::*;
 use der::reader::*;
 use elements::walk::*;
 use extension::extensions::*;
+use extension::reading::*;
 use extension::value::*;
 use items::header::*;
 use items::item::*;
 use refusals::grounds::*;
 use telling::reason::*;
-use telling::told::*;
 
 // A revoked certificate: its serial, since when, and why.
-#[derive(Clone, Copy)]
+#[derive(Clone, Copy, Debug, PartialEq, Eq)]
 pub struct Entry<'a> {
     pub serial: Part<'a>,
     pub date: u64,
     pub reason: Option<Reason>,
 }
 
+// The content of the INTEGER 0.
+const ZERO: &[u8] = &[0];
+
 // Whether the content of an INTEGER is that of a serial: above zero, at most 20 octets.
 pub fn is_serial(octets: &[u8]) -> bool
     ensures { result ≡ serial_is octets.now }
 {
-    octets.len() <= MOST_OCTETS && is_from_zero(octets) && !same(octets, &[0])
+    octets.len() <= MOST_OCTETS && is_from_zero(octets) && octets != ZERO
 }
 
 // The serial of a certificate.
 #[tactic(auto, unfolding(crate::specs::Entries::serial_at))]
 fn serial<'a>(reader: &mut Reader<'a>) -> Result<Part<'a>, Fault>
-    ensures { told piece_of result reader.new ≡ serial_at (left_of reader.old) }
+    ensures { told piece_of result reader.new ≡ serial_at reader.old }
 {
-    let offset = reader.offset;
+    let offset = reader.offset();
     let content = reader.expect(INTEGER)?;
     if !is_serial(content.octets) {
         return Err(unexpected(offset));
@@ -47,26 +49,22 @@ fn serial<'a>(reader: &mut Reader<'a>) -> Result<Part<'a>, Fault>
 }
 
 // The reason that an entry's extensions tell, if it has any.
+#[tactic(auto, unfolding(crate::specs::Entries::reasons_at, extension::specs::Extensions::told_by))]
 fn reason(reader: &mut Reader) -> Result<Option<Reason>, Fault>
-    ensures { told (mapped reason_number) result reader.new ≡ reasons_at (left_of reader.old) }
+    ensures { told (mapped reason_number) result reader.new ≡ reasons_at reader.old }
 {
-    if reader.rest.len() == 0 {
+    if reader.is_empty() {
         return Ok(None);
     }
-    let content = reader.expect(SEQUENCE)?;
-    let mut inner = Reader {
-        rest: content.octets,
-        offset: content.offset,
-    };
-    let mut state = InEntry { told: untold() };
-    let _count = walk::<InEntry, Extension>(&mut inner, &mut state, &mut [])?;
-    Ok(state.told.reason)
+    let extensions = reader.open(SEQUENCE)?;
+    let told = read_told(extensions, InEntry)?;
+    Ok(told.reason)
 }
 
 // The content of an entry.
 #[tactic(auto, unfolding(crate::specs::Entries::entry_body_at))]
 fn entry_body<'a>(reader: &mut Reader<'a>) -> Result<Entry<'a>, Fault>
-    ensures { told line_of result reader.new ≡ entry_body_at (left_of reader.old) }
+    ensures { told line_of result reader.new ≡ entry_body_at reader.old }
 {
     let serial = serial(reader)?;
     let date = time(reader)?;
@@ -81,14 +79,10 @@ fn entry_body<'a>(reader: &mut Reader<'a>) -> Result<Entry<'a>, Fault>
 // An entry.
 #[tactic(auto, unfolding(crate::specs::Entries::entry_at))]
 pub fn read_entry<'a>(reader: &mut Reader<'a>) -> Result<Entry<'a>, Fault>
-    ensures read { told line_of result reader.new ≡ entry_at (left_of reader.old) }
-    ensures long { OnOk result (length reader.new.rest.now + 2 ≤ length reader.old.rest.now) }
+    ensures read { told line_of result reader.new ≡ entry_at reader.old }
+    ensures long { OnOk result (PastAnItem reader.old reader.new) }
 {
-    let content = reader.expect(SEQUENCE)?;
-    let mut inner = Reader {
-        rest: content.octets,
-        offset: content.offset,
-    };
+    let mut inner = reader.open(SEQUENCE)?;
     let entry = entry_body(&mut inner)?;
     inner.end()?;
     Ok(entry)

@@ -1,10 +1,9 @@
 // The times of a list: UTCTime before 2050, GeneralizedTime from 2050 on.
 ghost use Rattle.std.specs.Prelude.{◌≡◌};
 ghost use Rattle.items.specs.Things.{time_tag};
-ghost use Rattle.der.specs.Reads.{left_of, told, seen};
-ghost use Rattle.entry.specs.Times.{time_by, timely, time_at};
+ghost use Rattle.der.specs.Reads.{told};
+ghost use Rattle.entry.specs.Times.{time_by, time_at};
 
-use der::cursor::*;
 use der::reader::*;
 use items::item::*;
 use moment::texts::{FIRST_OF_2050, read_general, read_utc};
@@ -16,42 +15,22 @@ fn moment_in(form: TimeForm, octets: &[u8]) -> Option<u64>
 {
     match form {
         TimeForm::Utc => read_utc(octets),
-        TimeForm::Generalized => {
-            let moment = read_general(octets)?;
-            if moment < FIRST_OF_2050 {
-                None
-            } else {
-                Some(moment)
-            }
-        }
-    }
-}
-
-// The same, with the fault of the time whose tag stands at the offset.
-fn moment_or_fault(form: TimeForm, octets: &[u8], offset: usize) -> Result<u64, Fault>
-    ensures { seen (λ m. m) result ≡ timely (time_tag form) octets.now offset }
-{
-    match moment_in(form, octets) {
-        Some(moment) => Ok(moment),
-        None => Err(Fault {
-            ground: Ground::NotATime,
-            offset,
-        }),
+        TimeForm::Generalized => read_general(octets).filter(|moment| *moment >= FIRST_OF_2050),
     }
 }
 
 // An update, or the date of an entry.
 #[tactic(auto, unfolding(crate::specs::Times::time_at))]
 pub fn time(reader: &mut Reader) -> Result<u64, Fault>
-    ensures { told (λ m. m) result reader.new ≡ time_at (left_of reader.old) }
+    ensures { told (λ m. m) result reader.new ≡ time_at reader.old }
 {
-    let offset = reader.offset;
+    let offset = reader.offset();
     match reader.item(Laid::Any)? {
         Item::Time {
             form,
             offset: _,
             content,
-        } => moment_or_fault(form, content.octets, offset),
+        } => moment_in(form, content.octets).ok_or(Ground::NotATime.at(offset)),
         _ => Err(unexpected(offset)),
     }
 }

@@ -9,10 +9,10 @@ use Rattle.telling.specs.declared.role.Context.{Context}
 use Rattle.telling.specs.declared.role.Role.{Role}
 use Rattle.telling.specs.declared.role.Role.TheVariants.{Number, Expired, Reason, Other}
 use Rattle.extension.specs.declared.extensions.Extension.{Extension}
-use Rattle.extension.specs.declared.extensions.InList.{InList}
-use Rattle.extension.specs.declared.extensions.InEntry.{InEntry}
+use Rattle.extension.specs.declared.extensions.Before.{Before}
+use Rattle.elements.specs.Runs.{run_of}
 use Rattle.telling.specs.Roles.{role_of}
-use Rattle.telling.specs.Tells.{Tells, tells_of, stood_in, merged}
+use Rattle.telling.specs.Tells.{Tells, tells_of, silent, stood_in, merged}
 use Rattle.extension.specs.Values.{value_by}
 
 -- what an extension says
@@ -25,11 +25,8 @@ pub record Extn : Type 0 where
 abbrev pub extension_of : Extension → Extn
 extension_of e = record { identifier = piece_of e.identifier; critical = e.critical; content = piece_of e.content; tells = tells_of e.told }
 
-abbrev pub list_tells : InList → Tells
-list_tells a = tells_of a.told
-
-abbrev pub entry_tells : InEntry → Tells
-entry_tells a = tells_of a.told
+abbrev pub before_tells : {P : Type 0} → Before P → Tells
+before_tells a = tells_of a.told
 
 -- nothing is read out of an extension with this role
 abbrev pub unread : Role → Bool
@@ -64,3 +61,7 @@ extension_at context before s = bind (expect_at 48 s) (λ c t. then (all_of (bod
 -- an extension in its run, and what is told then
 abbrev pub extension_step : Context → Tells → Left → Result (Got (Both Extn Tells)) Flaw
 extension_step context before s = bind (extension_at context before s) (λ e t. Ok (got (record { one = e; two = merged before e.tells }) t))
+
+-- what a part tells that is a run of extensions
+unfoldable pub told_by : Context → Piece → Result Tells Flaw
+told_by context c = then (run_of (extension_step context) silent c) (λ v. Ok v.two)

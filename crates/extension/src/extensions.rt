@@ -1,9 +1,13 @@
-// Extensions, and what those before them in their run have told.
+// Extensions, the places where they stand, and what those before them in their run have told.
+ghost use Rattle.std.specs.Prelude.{◌≡◌};
+ghost use Rattle.telling.specs.declared.role.Context.{Context};
+
 use items::item::Part;
+use telling::role::Context;
 use telling::told::Told;
 
 // An extension, and what it tells.
-#[derive(Clone, Copy)]
+#[derive(Clone, Copy, Debug, PartialEq, Eq)]
 pub struct Extension<'a> {
     pub identifier: Part<'a>,
     pub critical: bool,
@@ -11,14 +15,41 @@ pub struct Extension<'a> {
     pub told: Told<'a>,
 }
 
-// What the extensions of a list have told so far.
-#[derive(Clone, Copy)]
-pub struct InList<'a> {
-    pub told: Told<'a>,
+// A place where extensions stand. It says in which context an extension there is read.
+pub trait Place {
+    ghost stands: { Context };
+
+    fn context() -> Context
+        ensures { result ≡ stands };
 }
 
-// What the extensions of an entry have told so far.
-#[derive(Clone, Copy)]
-pub struct InEntry<'a> {
+// Among the extensions of a list.
+#[derive(Clone, Copy, Debug, PartialEq, Eq)]
+pub struct InList;
+
+impl Place for InList {
+    ghost stands = { Context.List };
+
+    fn context() -> Context {
+        Context::List
+    }
+}
+
+// Among the extensions of an entry.
+#[derive(Clone, Copy, Debug, PartialEq, Eq)]
+pub struct InEntry;
+
+impl Place for InEntry {
+    ghost stands = { Context.Entry };
+
+    fn context() -> Context {
+        Context::Entry
+    }
+}
+
+// What the extensions of a run have told so far, which stand at such a place.
+#[derive(Clone, Copy, Debug, PartialEq, Eq)]
+pub struct Before<'a, P> {
     pub told: Told<'a>,
+    pub place: P,
 }

@@ -1,13 +1,12 @@
 // Extensions as a kind of element, in a list and in an entry.
-ghost use Rattle.std.specs.Prelude.{◌≡◌, ◌+◌, ◌≤◌, length, OnOk};
-ghost use Rattle.der.specs.Reads.{left_of, told, told_both};
-ghost use Rattle.telling.specs.declared.role.Context.TheVariants.{List as ListContext, Entry as EntryContext};
-ghost use Rattle.telling.specs.Tells.{tells_of};
-ghost use Rattle.extension.specs.Extensions.{extension_of, unread, list_tells, entry_tells, flag_at, body_at, extension_at, extension_step};
+ghost use Rattle.std.specs.Prelude.{◌≡◌, OnOk, Ok};
+ghost use Rattle.der.specs.Reads.{told, told_both, seen, then, part_left, PastAnItem};
+ghost use Rattle.telling.specs.Tells.{tells_of, silent};
+ghost use Rattle.elements.specs.Runs.{run_of};
+ghost use Rattle.extension.specs.Extensions.{extension_of, before_tells, unread, flag_at, body_at, extension_at, extension_step, told_by};
 
 use super::extensions::*;
 use super::value::*;
-use der::cursor::*;
 use der::reader::*;
 use elements::walk::*;
 use items::header::*;
@@ -16,17 +15,20 @@ use refusals::grounds::*;
 use telling::role::*;
 use telling::told::*;
 
+// The content of a BOOLEAN that is true.
+const TRUE: &[u8] = &[0xff];
+
 // Whether the extension is critical: its flag is 01 01 FF, or nothing.
 #[tactic(auto, unfolding(crate::specs::Extensions::flag_at))]
 fn flag(reader: &mut Reader) -> Result<bool, Fault>
-    ensures { told (λ b. b) result reader.new ≡ flag_at (left_of reader.old) }
+    ensures { told (λ b. b) result reader.new ≡ flag_at reader.old }
 {
-    let offset = reader.offset;
+    let offset = reader.offset();
     if !reader.next_is(BOOLEAN) {
         return Ok(false);
     }
     let content = reader.expect(BOOLEAN)?;
-    if !same(content.octets, &[0xff]) {
+    if content.octets != TRUE {
         return Err(unexpected(offset));
     }
     Ok(true)
@@ -36,7 +38,7 @@ fn flag(reader: &mut Reader) -> Result<bool, Fault>
 fn is_other(role: Role) -> bool
     ensures { result ≡ unread role }
 {
-    matches!(role, Role::Other)
+    role == Role::Other
 }
 
 // The content of the extension whose tag stands at `at`, where these were told before it.
@@ -47,7 +49,7 @@ fn body<'a>(
     before: &Told<'a>,
     at: usize,
 ) -> Result<Extension<'a>, Fault>
-    ensures { told extension_of result reader.new ≡ body_at context (tells_of before.now) at (left_of reader.old) }
+    ensures { told extension_of result reader.new ≡ body_at context (tells_of before.now) at reader.old }
 {
     let identifier = reader.expect(OBJECT_IDENTIFIER)?;
     let role = role_of(context, identifier.octets);
@@ -56,13 +58,11 @@ fn body<'a>(
     }
     let critical = flag(reader)?;
     if critical && is_other(role) {
-        return Err(Fault {
-            ground: Ground::Critical,
-            offset: at,
-        });
+        return Err(Ground::Critical.at(at));
     }
-    let content = reader.expect(OCTET_STRING)?;
-    let told = value_by(role, content)?;
+    let value = reader.open(OCTET_STRING)?;
+    let content = value.rest();
+    let told = value_by(role, value)?;
     Ok(Extension {
         identifier,
         critical,
@@ -78,36 +78,35 @@ fn read_extension<'a>(
     context: Context,
     before: &Told<'a>,
 ) -> Result<Extension<'a>, Fault>
-    ensures read { told extension_of result reader.new ≡ extension_at context (tells_of before.now) (left_of reader.old) }
-    ensures long { OnOk result (length reader.new.rest.now + 2 ≤ length reader.old.rest.now) }
+    ensures read { told extension_of result reader.new ≡ extension_at context (tells_of before.now) reader.old }
+    ensures long { OnOk result (PastAnItem reader.old reader.new) }
 {
-    let at = reader.offset;
-    let content = reader.expect(SEQUENCE)?;
-    let mut inner = Reader {
-        rest: content.octets,
-        offset: content.offset,
-    };
+    let at = reader.offset();
+    let mut inner = reader.open(SEQUENCE)?;
     let extension = body(&mut inner, context, before, at)?;
     inner.end()?;
     Ok(extension)
 }
 
-impl<'a> Readable<'a, InList<'a>> for Extension<'a> {
-    ghost means = { λ a s r b t. told_both extension_of list_tells r b t ≡ extension_step ListContext (list_tells a) s };
+impl<'a, P: Place> Readable<'a, Before<'a, P>> for Extension<'a> {
+    ghost means = { λ a s r b t. told_both extension_of before_tells r b t ≡ extension_step P.stands (before_tells a) s };
 
-    fn read(reader: &mut Reader<'a>, state: &mut InList<'a>) -> Result<Extension<'a>, Fault> {
-        let extension = read_extension(reader, Context::List, &state.told)?;
+    fn read(reader: &mut Reader<'a>, state: &mut Before<'a, P>) -> Result<Extension<'a>, Fault> {
+        let extension = read_extension(reader, P::context(), &state.told)?;
         state.told = state.told.with(&extension.told);
         Ok(extension)
     }
 }
 
-impl<'a> Readable<'a, InEntry<'a>> for Extension<'a> {
-    ghost means = { λ a s r b t. told_both extension_of entry_tells r b t ≡ extension_step EntryContext (entry_tells a) s };
-
-    fn read(reader: &mut Reader<'a>, state: &mut InEntry<'a>) -> Result<Extension<'a>, Fault> {
-        let extension = read_extension(reader, Context::Entry, &state.told)?;
-        state.told = state.told.with(&extension.told);
-        Ok(extension)
-    }
+// What a run of extensions tells, up to the end of what is left.
+pub fn read_told<'a, P: Place + Drop + 'a>(reader: Reader<'a>, place: P) -> Result<Told<'a>, Fault>
+    ensures { seen tells_of result ≡ told_by P.stands (part_left reader.entry) }
+{
+    let mut inner = reader;
+    let mut state = Before {
+        told: Told::default(),
+        place,
+    };
+    let _count = walk::<Before<P>, Extension>(&mut inner, &mut state, &mut [])?;
+    Ok(state.told)
 }

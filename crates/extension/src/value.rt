@@ -1,12 +1,11 @@
 // The value of an extension that is read: the one item that its OCTET STRING holds.
-ghost use Rattle.std.specs.Prelude.{◌≡◌, ◌+◌, ◌^◌, ◌<◌, length};
-ghost use Rattle.der.specs.Reads.{left_of, told, seen};
+ghost use Rattle.std.specs.Prelude.{◌≡◌};
+ghost use Rattle.der.specs.Reads.{told, seen, part_left};
 ghost use Rattle.items.specs.Parts.{piece_of};
 ghost use Rattle.telling.specs.Reasons.{reason_number};
 ghost use Rattle.telling.specs.Tells.{tells_of};
 ghost use Rattle.extension.specs.Values.{from_zero, number_is, number_at, expired_at, reason_at, value_by};
 
-use der::cursor::*;
 use der::reader::*;
 use items::header::*;
 use items::item::*;
@@ -23,7 +22,7 @@ pub const MOST_OCTETS: usize = 20;
 pub fn is_from_zero(octets: &[u8]) -> bool
     ensures { result ≡ from_zero octets.now }
 {
-    octets.len() > 0 && octets[0] < 128
+    matches!(octets, [0..=127, ..])
 }
 
 // Whether the content is that of a list's number.
@@ -36,9 +35,9 @@ fn is_number(octets: &[u8]) -> bool
 // A list's number: an INTEGER from 0 with at most 20 octets.
 #[tactic(auto, unfolding(crate::specs::Values::number_at))]
 fn number<'a>(reader: &mut Reader<'a>) -> Result<Part<'a>, Fault>
-    ensures { told piece_of result reader.new ≡ number_at (left_of reader.old) }
+    ensures { told piece_of result reader.new ≡ number_at reader.old }
 {
-    let offset = reader.offset;
+    let offset = reader.offset();
     let content = reader.expect(INTEGER)?;
     if !is_number(content.octets) {
         return Err(unexpected(offset));
@@ -49,45 +48,30 @@ fn number<'a>(reader: &mut Reader<'a>) -> Result<Part<'a>, Fault>
 // expiredCertsOnCRL: a GeneralizedTime, before 2050 too.
 #[tactic(auto, unfolding(crate::specs::Values::expired_at))]
 fn expired(reader: &mut Reader) -> Result<u64, Fault>
-    ensures { told (λ m. m) result reader.new ≡ expired_at (left_of reader.old) }
+    ensures { told (λ m. m) result reader.new ≡ expired_at reader.old }
 {
-    let offset = reader.offset;
+    let offset = reader.offset();
     let content = reader.expect(GENERALIZED_TIME)?;
-    match read_general(content.octets) {
-        Some(moment) => Ok(moment),
-        None => Err(Fault {
-            ground: Ground::NotATime,
-            offset,
-        }),
-    }
+    read_general(content.octets).ok_or(Ground::NotATime.at(offset))
 }
 
 // A reason: an ENUMERATED with a number that is admitted.
 #[tactic(auto, unfolding(crate::specs::Values::reason_at))]
 fn reason(reader: &mut Reader) -> Result<Reason, Fault>
-    ensures { told reason_number result reader.new ≡ reason_at (left_of reader.old) }
+    ensures { told reason_number result reader.new ≡ reason_at reader.old }
 {
-    let offset = reader.offset;
+    let offset = reader.offset();
     let content = reader.expect(ENUMERATED)?;
-    match Reason::from_content(content.octets) {
-        Some(reason) => Ok(reason),
-        None => Err(Fault {
-            ground: Ground::WrongReason,
-            offset,
-        }),
-    }
+    Reason::try_from(content.octets)
+        .ok()
+        .ok_or(Ground::WrongReason.at(offset))
 }
 
-// What an extension with this role and content tells.
-pub(crate) fn value_by(role: Role, content: Part) -> Result<Told, Fault>
-    requires { content.offset + length content.octets.now < 2 ^ 64 }
-    ensures { seen tells_of result ≡ value_by role (piece_of content.entry) }
+// What an extension with this role tells, whose content is left to read.
+pub(crate) fn value_by(role: Role, mut reader: Reader) -> Result<Told, Fault>
+    ensures { seen tells_of result ≡ value_by role (part_left reader.entry) }
 {
-    let mut told = untold();
-    let mut reader = Reader {
-        rest: content.octets,
-        offset: content.offset,
-    };
+    let mut told = Told::default();
     match role {
         Role::Number => told.number = Some(number(&mut reader)?),
         Role::Expired => told.expired = Some(expired(&mut reader)?),

@@ -6,8 +6,7 @@ ghost use Rattle.der.specs.Reads.{seen};
 ghost use Rattle.items.specs.Things.{Thing, thing_of};
 ghost use Rattle.grammar.specs.Law.{item_in, Stands, OneEncoding};
 
-use der::cursor::*;
-use der::reader::unexpected;
+use der::reader::*;
 use items::item::*;
 use refusals::grounds::*;
 
@@ -24,10 +23,7 @@ pub fn item_at(octets: &[u8], offset: usize) -> Result<Item, Fault>
 fn read_at(octets: &[u8], offset: usize) -> Result<Item, Fault>
     ensures { seen thing_of result ≡ item_in octets.now offset }
 {
-    if offset > octets.len() {
-        return Err(unexpected(offset));
-    }
-    let (_, rest) = octets.split_at(offset);
-    let mut reader = Reader { rest, offset };
-    reader.item(Laid::Any)
+    Reader::from_offset(octets, offset)
+        .ok_or(unexpected(offset))?
+        .item(Laid::Any)
 }

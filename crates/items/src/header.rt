@@ -32,11 +32,7 @@ fn fit(start: usize, len: usize, total: usize) -> Option<Head>
     requires { start ≤ total }
     ensures { result ≡ fitted start len total }
 {
-    if len <= total - start {
-        Some(Head { start, len })
-    } else {
-        None
-    }
+    (len <= total - start).then_some(Head { start, len })
 }
 
 // The header of the item in front, or none where the octets break the rules.
@@ -45,26 +41,12 @@ pub fn head(octets: &[u8]) -> Option<Head>
     ensures within { IfSome result (λ h. (2 ≤ h.start) × (h.start + h.len ≤ length octets.now)) }
 {
     let total = octets.len();
-    if total < 2 || octets[0] % 32 == 31 {
-        return None;
-    }
-    match octets[1] {
-        0..=0x7f => fit(2, octets[1] as usize, total),
-        0x81 => {
-            if total < 3 || octets[2] < 0x80 {
-                return None;
-            }
-            fit(3, octets[2] as usize, total)
-        }
-        0x82 => {
-            if total < 4 {
-                return None;
-            }
-            let len = octets[2] as usize * 256 + octets[3] as usize;
-            if len < 256 {
-                return None;
-            }
-            fit(4, len, total)
+    match octets {
+        [tag, ..] if tag % 32 == 31 => None,
+        [_, len @ 0..=0x7f, ..] => fit(2, usize::from(*len), total),
+        [_, 0x81, len @ 0x80.., ..] => fit(3, usize::from(*len), total),
+        [_, 0x82, high @ 1.., low, ..] => {
+            fit(4, usize::from(u16::from_be_bytes([*high, *low])), total)
         }
         _ => None,
     }
@@ -74,18 +56,10 @@ pub fn head(octets: &[u8]) -> Option<Head>
 pub fn is_shortest(tag: u8, content: &[u8]) -> bool
     ensures { result ≡ shortest tag content.now }
 {
-    if tag != INTEGER && tag != ENUMERATED {
-        return true;
-    }
-    if content.len() == 0 {
-        return false;
-    }
-    if content.len() == 1 {
-        return true;
-    }
-    match content[0] {
-        0 => content[1] >= 128,
-        255 => content[1] < 128,
+    match (tag, content) {
+        (INTEGER | ENUMERATED, []) => false,
+        (INTEGER | ENUMERATED, [0, next, ..]) => *next >= 128,
+        (INTEGER | ENUMERATED, [255, next, ..]) => *next < 128,
         _ => true,
     }
 }
@@ -132,8 +106,7 @@ impl<'a> Item<'a> {
                 form: TimeForm::Generalized,
                 ..
             } => GENERALIZED_TIME,
-            Item::Name { .. } => SEQUENCE,
-            Item::Sequence { .. } => SEQUENCE,
+            Item::Name { .. } | Item::Sequence { .. } => SEQUENCE,
             Item::Other { tag, .. } => *tag,
         }
     }
@@ -143,11 +116,11 @@ impl<'a> Item<'a> {
         ensures { piece_of result ≡ (thing_of self.now).content }
     {
         match self {
-            Item::Integer { content, .. } => *content,
-            Item::Time { content, .. } => *content,
-            Item::Name { content, .. } => *content,
-            Item::Sequence { content, .. } => *content,
-            Item::Other { content, .. } => *content,
+            Item::Integer { content, .. }
+            | Item::Time { content, .. }
+            | Item::Name { content, .. }
+            | Item::Sequence { content, .. }
+            | Item::Other { content, .. } => *content,
         }
     }
 }

@@ -1,21 +1,21 @@
 // Items and parts of the lent octets.
 
 // A part of the lent octets, with its offset.
-#[derive(Clone, Copy)]
+#[derive(Clone, Copy, Debug, PartialEq, Eq)]
 pub struct Part<'a> {
     pub octets: &'a [u8],
     pub offset: usize,
 }
 
 // The two forms of a time.
-#[derive(Clone, Copy)]
+#[derive(Clone, Copy, Debug, PartialEq, Eq)]
 pub enum TimeForm {
     Utc,
     Generalized,
 }
 
 // An item: what it is, the offset of its tag, and its content.
-#[derive(Clone, Copy)]
+#[derive(Clone, Copy, Debug, PartialEq, Eq)]
 pub enum Item<'a> {
     Integer {
         offset: usize,
@@ -43,14 +43,14 @@ pub enum Item<'a> {
 }
 
 // Whether a name is laid down where an item is read: the octets alone do not tell a name from another SEQUENCE.
-#[derive(Clone, Copy)]
+#[derive(Clone, Copy, Debug, PartialEq, Eq)]
 pub enum Laid {
     Name,
     Any,
 }
 
 // Where the content of an item begins in it, and how long it is.
-#[derive(Clone, Copy)]
+#[derive(Clone, Copy, Debug, PartialEq, Eq)]
 pub struct Head {
     pub start: usize,
     pub len: usize,

@@ -1,54 +1,48 @@
 // The list around the signed block: algorithm and signature.
 ghost use Rattle.std.specs.Prelude.{◌≡◌};
-ghost use Rattle.der.specs.Reads.{left_of, told, seen};
+ghost use Rattle.der.specs.Reads.{told, seen};
 ghost use Rattle.items.specs.Parts.{piece_of};
 ghost use Rattle.list.specs.Lists.{block_as_of, signature_of, listing_of, signed_at, signature_is, signature_at, body_at, list_at, list_of};
 
 use algorithm::identifiers::*;
 use block::fields::*;
-use der::cursor::*;
 use der::reader::*;
 use items::header::*;
 use items::item::*;
 use refusals::grounds::*;
 
 // The signed block, as it stands and by what it says.
-#[derive(Clone, Copy)]
+#[derive(Clone, Copy, Debug, PartialEq, Eq)]
 pub struct SignedBlock<'a> {
     pub item: Part<'a>,
     pub block: Block<'a>,
 }
 
 // The signature: the BIT STRING as it stands, and its octets after the first one of its content.
-#[derive(Clone, Copy)]
+#[derive(Clone, Copy, Debug, PartialEq, Eq)]
 pub struct Signature<'a> {
     pub item: Part<'a>,
     pub octets: Part<'a>,
 }
 
 // A revocation list: parts of the caller's octets with their offsets, and the moments.
-#[derive(Clone, Copy)]
+#[derive(Clone, Copy, Debug, PartialEq, Eq)]
 pub struct RevocationList<'a> {
     pub signed: SignedBlock<'a>,
     pub signature: Signature<'a>,
 }
 
 // The signed block.
-#[tactic(auto, unfolding(crate::specs::Lists::signed_at))]
+#[tactic(auto, unfolding(crate::specs::Lists::signed_at, der::specs::Items::whole_at))]
 fn signed_block<'a>(reader: &mut Reader<'a>) -> Result<SignedBlock<'a>, Fault>
-    ensures { told block_as_of result reader.new ≡ signed_at (left_of reader.old) }
+    ensures { told block_as_of result reader.new ≡ signed_at reader.old }
 {
-    let whole = reader.whole(SEQUENCE)?;
-    let mut inner = Reader {
-        rest: whole.content.octets,
-        offset: whole.content.offset,
-    };
+    let before = reader.rest();
+    let mut inner = reader.open(SEQUENCE)?;
+    let item = reader.since(before);
     let block = read_block(&mut inner)?;
     inner.end()?;
-    Ok(SignedBlock {
-        item: whole.item,
-        block,
-    })
+    Ok(SignedBlock { item, block })
 }
 
 // Whether the content of a BIT STRING is that of a signature: no unused bits, and at least one octet.
@@ -61,9 +55,9 @@ fn is_signature(content: &[u8]) -> bool
 // The signature.
 #[tactic(auto, unfolding(crate::specs::Lists::signature_at))]
 fn read_signature<'a>(reader: &mut Reader<'a>) -> Result<Signature<'a>, Fault>
-    ensures { told signature_of result reader.new ≡ signature_at (left_of reader.old) }
+    ensures { told signature_of result reader.new ≡ signature_at reader.old }
 {
-    let offset = reader.offset;
+    let offset = reader.offset();
     let whole = reader.whole(BIT_STRING)?;
     if !is_signature(whole.content.octets) {
         return Err(unexpected(offset));
@@ -81,7 +75,7 @@ fn read_signature<'a>(reader: &mut Reader<'a>) -> Result<Signature<'a>, Fault>
 // The content of the list: signed block, algorithm, signature.
 #[tactic(auto, unfolding(crate::specs::Lists::body_at))]
 fn list_body<'a>(reader: &mut Reader<'a>) -> Result<RevocationList<'a>, Fault>
-    ensures { told listing_of result reader.new ≡ body_at (left_of reader.old) }
+    ensures { told listing_of result reader.new ≡ body_at reader.old }
 {
     let signed = signed_block(reader)?;
     algorithm_again(reader, signed.block.algorithm)?;
@@ -92,13 +86,9 @@ fn list_body<'a>(reader: &mut Reader<'a>) -> Result<RevocationList<'a>, Fault>
 // A list.
 #[tactic(auto, unfolding(crate::specs::Lists::list_at))]
 fn one_list<'a>(reader: &mut Reader<'a>) -> Result<RevocationList<'a>, Fault>
-    ensures { told listing_of result reader.new ≡ list_at (left_of reader.old) }
+    ensures { told listing_of result reader.new ≡ list_at reader.old }
 {
-    let content = reader.expect(SEQUENCE)?;
-    let mut inner = Reader {
-        rest: content.octets,
-        offset: content.offset,
-    };
+    let mut inner = reader.open(SEQUENCE)?;
     let list = list_body(&mut inner)?;
     inner.end()?;
     Ok(list)
@@ -109,10 +99,7 @@ fn one_list<'a>(reader: &mut Reader<'a>) -> Result<RevocationList<'a>, Fault>
 pub fn whole_list(octets: &[u8]) -> Result<RevocationList, Fault>
     ensures { seen listing_of result ≡ list_of octets.now }
 {
-    let mut reader = Reader {
-        rest: octets,
-        offset: 0,
-    };
+    let mut reader = Reader::new(octets);
     let list = one_list(&mut reader)?;
     reader.end()?;
     Ok(list)

@@ -1,94 +1,83 @@
 // Refusals: why a call is refused, in which input, and where.
 ghost use Rattle.std.specs.Prelude.{◌≡◌};
-ghost use Rattle.refusals.specs.Refusals.{ground_number, input_number, refusal_in};
+ghost use Rattle.refusals.specs.Refusals.{ground_number, input_number, fault_at, refusal_in};
 
 // Why a call is refused. Each ground has a number that is printed and never changes.
-#[derive(Clone, Copy)]
+#[derive(Clone, Copy, Debug, PartialEq, Eq)]
 pub enum Ground {
     // A length or the caution period is above its maximum.
-    Limit,
+    Limit = 1,
     // The length of the roll or of a table is not the one the register was made with, or a list line points past the entries.
-    Memory,
+    Memory = 2,
     // A list or a roll exceeds 65,535 octets.
-    TooLong,
+    TooLong = 3,
     // The roll has a seventeenth name.
-    RollFull,
+    RollFull = 4,
     // Octets break the rules for items, or an item runs past the item around it.
-    Malformed,
+    Malformed = 5,
     // An item is missing, extra or not the one laid down.
-    Unexpected,
+    Unexpected = 6,
     // A time is not a moment, or a number given as a moment is past the last one.
-    NotATime,
+    NotATime = 7,
     // The issuer is not on the roll.
-    UnknownIssuer,
+    UnknownIssuer = 8,
     // A reason code that is not admitted.
-    WrongReason,
+    WrongReason = 9,
     // A critical extension that is not read.
-    Critical,
+    Critical = 10,
     // The verifier does not hold the list genuine.
-    NotGenuine,
+    NotGenuine = 11,
     // A taken list of that issuer has the same signed block.
-    Duplicate,
+    Duplicate = 12,
     // The list table or the entry table runs out.
-    TableFull,
+    TableFull = 13,
     // A serial is not the content of a serial, or notBefore lies after notAfter.
-    BadArgument,
+    BadArgument = 14,
     // The output is too short.
-    OutputShort,
+    OutputShort = 15,
     // No line is free or a span is open already; or none is open, or its end lies before its start.
-    Span,
+    Span = 16,
+}
+
+impl From<Ground> for u8 {
+    ghost from_gives = { λ ground n. n ≡ ground_number ground };
+
+    fn from(ground: Ground) -> u8 {
+        ground as u8
+    }
 }
 
 impl Ground {
-    // The number of the ground.
-    pub fn number(self) -> u8
-        ensures { result ≡ ground_number self }
+    // The fault of this ground at an offset.
+    pub fn at(self, offset: usize) -> Fault
+        ensures { result ≡ fault_at self offset }
     {
-        match self {
-            Ground::Limit => 1,
-            Ground::Memory => 2,
-            Ground::TooLong => 3,
-            Ground::RollFull => 4,
-            Ground::Malformed => 5,
-            Ground::Unexpected => 6,
-            Ground::NotATime => 7,
-            Ground::UnknownIssuer => 8,
-            Ground::WrongReason => 9,
-            Ground::Critical => 10,
-            Ground::NotGenuine => 11,
-            Ground::Duplicate => 12,
-            Ground::TableFull => 13,
-            Ground::BadArgument => 14,
-            Ground::OutputShort => 15,
-            Ground::Span => 16,
+        Fault {
+            ground: self,
+            offset,
         }
     }
 }
 
 // The input that a refusal speaks of.
-#[derive(Clone, Copy)]
+#[derive(Clone, Copy, Debug, PartialEq, Eq)]
 pub enum Input {
-    Neither,
-    List,
+    Neither = 0,
+    List = 1,
     // The roll, or the one name that a written list is given.
-    Roll,
+    Roll = 2,
 }
 
-impl Input {
-    // The number of the input.
-    pub fn number(self) -> u8
-        ensures { result ≡ input_number self }
-    {
-        match self {
-            Input::Neither => 0,
-            Input::List => 1,
-            Input::Roll => 2,
-        }
+impl From<Input> for u8 {
+    ghost from_gives = { λ input n. n ≡ input_number input };
+
+    fn from(input: Input) -> u8 {
+        input as u8
     }
 }
 
 // What a refused call answers.
-#[derive(Clone, Copy)]
+#[derive(Clone, Copy, Debug, PartialEq, Eq)]
 pub struct Refusal {
     pub ground: Ground,
     pub input: Input,
@@ -96,7 +85,7 @@ pub struct Refusal {
 }
 
 // Why reading stopped, and at which offset of the octets that are read.
-#[derive(Clone, Copy)]
+#[derive(Clone, Copy, Debug, PartialEq, Eq)]
 pub struct Fault {
     pub ground: Ground,
     pub offset: usize,

@@ -8,11 +8,7 @@ use super::grounds::*;
 fn suffix(octets: &[u8], offset: usize) -> &[u8]
     ensures { result.now ≡ drop offset octets.now }
 {
-    if offset > octets.len() {
-        &[]
-    } else {
-        &octets[offset..]
-    }
+    octets.get(offset..).unwrap_or(&[])
 }
 
 // The rest of the refused input from the refusal's offset on, out of the list or out of the roll (or name).

@@ -2,24 +2,22 @@
 ghost use Rattle.std.specs.Prelude.{◌≡◌};
 ghost use Rattle.telling.specs.Roles.{role_of};
 
-use der::reader::same;
-
 // The identifiers of the extensions that are read.
-pub const CRL_NUMBER: [u8; 3] = [0x55, 0x1d, 0x14];
+pub const CRL_NUMBER: &[u8] = &[0x55, 0x1d, 0x14];
 
-pub const REASON_CODE: [u8; 3] = [0x55, 0x1d, 0x15];
+pub const REASON_CODE: &[u8] = &[0x55, 0x1d, 0x15];
 
-pub const EXPIRED_CERTS_ON_CRL: [u8; 3] = [0x55, 0x1d, 0x3c];
+pub const EXPIRED_CERTS_ON_CRL: &[u8] = &[0x55, 0x1d, 0x3c];
 
 // Where an extension stands.
-#[derive(Clone, Copy)]
+#[derive(Clone, Copy, Debug, PartialEq, Eq)]
 pub enum Context {
     List,
     Entry,
 }
 
 // What an extension is there.
-#[derive(Clone, Copy)]
+#[derive(Clone, Copy, Debug, PartialEq, Eq)]
 pub enum Role {
     Number,
     Expired,
@@ -32,22 +30,10 @@ pub enum Role {
 pub fn role_of(context: Context, identifier: &[u8]) -> Role
     ensures { result ≡ role_of context identifier.now }
 {
-    match context {
-        Context::List => {
-            if same(identifier, &CRL_NUMBER) {
-                Role::Number
-            } else if same(identifier, &EXPIRED_CERTS_ON_CRL) {
-                Role::Expired
-            } else {
-                Role::Other
-            }
-        }
-        Context::Entry => {
-            if same(identifier, &REASON_CODE) {
-                Role::Reason
-            } else {
-                Role::Other
-            }
-        }
+    match (context, identifier) {
+        (Context::List, CRL_NUMBER) => Role::Number,
+        (Context::List, EXPIRED_CERTS_ON_CRL) => Role::Expired,
+        (Context::Entry, REASON_CODE) => Role::Reason,
+        _ => Role::Other,
     }
 }

@@ -4,11 +4,10 @@ ghost use Rattle.telling.specs.Tells.{tells_of, silent, stood_in, merged};
 
 use super::reason::*;
 use super::role::*;
-use der::cursor::*;
 use items::item::*;
 
 // What one extension tells, or several together: nothing, or the value of each that was read.
-#[derive(Clone, Copy)]
+#[derive(Clone, Copy, Debug, PartialEq, Eq)]
 pub struct Told<'a> {
     pub number: Option<Part<'a>>,
     pub expired: Option<u64>,
@@ -16,13 +15,15 @@ pub struct Told<'a> {
 }
 
 // Nothing told.
-pub fn untold<'a>() -> Told<'a>
-    ensures { tells_of result ≡ silent }
-{
-    Told {
-        number: None,
-        expired: None,
-        reason: None,
+impl<'a> Default for Told<'a> {
+    ghost is_default = { λ t. tells_of t ≡ silent };
+
+    fn default() -> Told<'a> {
+        Told {
+            number: None,
+            expired: None,
+            reason: None,
+        }
     }
 }
 

@@ -4,9 +4,9 @@ use Rattle.der.specs.Items.{item_at}
 use Rattle.grammar.specs.Law.{item_in}
 use Rattle.grammar.proofs.read_at.Goals as goal
 
-pub returns-then-offset-octets : goal.returns-then-offset-octets
+pub returns-in_err-ok_or : goal.returns-in_err-ok_or
 unfolding item_in item_at
-returns-then-offset-octets c = search (rules, drop_all)
+returns-in_err-ok_or c = search (rules, drop_all)
 
 pub returns : goal.returns
 unfolding item_in

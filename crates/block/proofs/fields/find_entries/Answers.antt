@@ -1,7 +1,7 @@
 use Rattle.std.proofs.Common.{◌≡◌, map, length, Ok, Err, sym, ◌∙◌, rules}
 use lib.ListN.{length-map}
 use Rattle.refusals.specs.Refusals.{flaw_of}
-use Rattle.items.specs.Parts.{piece_of}
+use Rattle.der.specs.Reads.{part_left}
 use Rattle.elements.specs.Names.{plain_of}
 use Rattle.elements.specs.Runs.{run_of}
 use Rattle.elements.proofs.Walks.{walk-ok, walk-err}
@@ -9,24 +9,16 @@ use Rattle.entry.specs.Entries.{line_of, entry_step}
 use Rattle.block.specs.Blocks.{entries_at}
 use Rattle.block.proofs.fields.find_entries.Goals as goal
 
-pub returns-then-not-next_is : goal.returns-then-not-next_is
-unfolding entries_at
-returns-then-not-next_is c = search rules
-
-pub returns-in_err-content : goal.returns-in_err-content
-unfolding entries_at
-returns-in_err-content c = search rules
-
 pub returns-in_err-count : goal.returns-in_err-count
 unfolding entries_at
 returns-in_err-count c =
-    let e : run_of entry_step tt (piece_of c.in_ok-content.content) ≡ Err (flaw_of c.in_err-count.field-0.0) = walk-err line_of plain_of entry_step _ _ _ _ _ _ _ c.in_err-count.ensures in
+    let e : run_of entry_step tt (part_left c.in_ok-inner.inner) ≡ Err (flaw_of c.in_err-count.field-0.0) = walk-err line_of plain_of entry_step _ _ _ _ _ _ _ c.in_err-count.ensures in
     search rules
 
 pub returns : goal.returns
 unfolding entries_at
 returns c =
     let w = walk-ok line_of plain_of entry_step _ _ _ _ _ _ _ c.in_ok-count.ensures in
-    let e : run_of entry_step tt (piece_of c.in_ok-content.content) ≡ Ok (record { one = map line_of w.0; two = tt }) = w.2 in
+    let e : run_of entry_step tt (part_left c.in_ok-inner.inner) ≡ Ok (record { one = map line_of w.0; two = tt }) = w.2 in
     let n : c.in_ok-count.count ≡ length (map line_of w.0) = w.1 ∙ sym (length-map w.0 line_of) in
     search rules

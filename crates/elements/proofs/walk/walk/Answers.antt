@@ -1,4 +1,4 @@
-use Rattle.std.proofs.Common.{arith}
+use Rattle.std.proofs.Common.{arith, rules}
 use Rattle.std.proofs.lemmas.Result.{err_from_is_err_and}
 use Rattle.elements.proofs.Onwards.{onward-none, onward-more, onward-last, onward-stop}
 use Rattle.elements.proofs.walk.walk.Goals as goal
@@ -11,11 +11,11 @@ returns-in_err-element g c =
     let p = err_from_is_err_and c.from_residual.result c.from_residual.ensures.1 in
     rw (p.1, p.2) (onward-stop g.E.Readable.means _ _ _ _ _ _ _ c.loop-element.invariant.1 _ _ _ c.read.ensures.read _ c.in_err-element.was)
 
-pub returns-then-reader-eq0 : goal.returns-then-reader-eq0
-returns-then-reader-eq0 g c =
-    rw c.keep.ensures (onward-last g.E.Readable.means _ _ _ _ _ _ _ c.loop-element.invariant.1 _ _ _ c.read.ensures.read _ c.in_ok-element.was c.if-reader-eq0.true)
+pub returns-then-is_empty : goal.returns-then-is_empty
+returns-then-is_empty g c =
+    rw c.keep.ensures (onward-last g.E.Readable.means _ _ _ _ _ _ _ c.loop-element.invariant.1 _ _ _ c.read.ensures.read _ c.in_ok-element.was (search rules))
 
 pub loop-element-preserved : goal.loop-element-preserved
 loop-element-preserved g c =
     let h = c.in_ok-element.ensures.long in
-    (omega arith, rw c.keep.ensures (onward-more g.E.Readable.means _ _ _ _ _ _ _ c.loop-element.invariant.1 _ _ _ c.read.ensures.read _ c.in_ok-element.was h (omega arith)))
+    (omega arith, rw c.keep.ensures (onward-more g.E.Readable.means _ _ _ _ _ _ _ c.loop-element.invariant.1 _ _ _ c.read.ensures.read _ c.in_ok-element.was h (search rules)))
