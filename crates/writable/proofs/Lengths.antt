@@ -1,10 +1,13 @@
 -- The lengths of what is written. Assumes nothing.
-use Rattle.std.proofs.Common.{◌≡◌, ℕ, ◌+◌, ◌<◌, ◌≤◌, Bool, true, false, ltb, leb, List, ◌++◌, length, Some, None, sym, refl, ap, ◌∙◌, arith, length-append}
-use Rattle.std.proofs.lemmas.Bool.{cond-true, cond-false, cond_both, le-leb, lt-leb}
+use Rattle.std.proofs.Common.{◌≡◌, ℕ, ◌+◌, ◌<◌, ◌≤◌, Bool, true, false, cond, ltb, leb, List, ◌++◌, length, Some, None, sym, refl, ap, ◌∙◌, arith, length-append}
+use Rattle.std.proofs.lemmas.Bool.{cond-false, cond_both, lt-leb}
+use Rattle.std.specs.Bool.{then_some}
 use Rattle.writable.specs.Sizes.{sized}
 use Rattle.encode.specs.Der.{der, length_octets}
 use Rattle.encode.proofs.Ders.{length-der}
-use Rattle.writable.specs.Extensions.{flag_octets, extension_content, extension_octets}
+use Rattle.extension.specs.Extensions.{Extn}
+use Rattle.writable.specs.declared.extensions.Bare.{Bare}
+use Rattle.writable.specs.Extensions.{flag_octets, bare_octets, BareOf, extension_content, extension_octets}
 
 -- a header takes two to four octets
 pub head-within : (n : ℕ) → (1 ≤ length (length_octets n)) × (length (length_octets n) ≤ 3)
@@ -25,6 +28,9 @@ length-content xs b ys = length-append (der 6 xs) (flag_octets b ++ der 4 ys) �
 pub length-extension : (xs : List ℕ) (b : Bool) (ys : List ℕ) → length (extension_octets xs b ys) ≡ length (der 48 (extension_content xs b ys))
 unfolding extension_octets
 length-extension xs b ys = refl
+
+pub bare-of : (e : Extn) (b : Bare) → BareOf e b → bare_octets b ≡ extension_octets e.identifier.octets e.critical e.content.octets
+bare-of e b h = ap (λ xs. extension_octets xs b.critical b.content.now) h.identifier ∙ ap (λ f. extension_octets e.identifier.octets f b.content.now) h.critical ∙ ap (extension_octets e.identifier.octets e.critical) h.content
 
 -- the lengths of an extension and of its parts
 pub record Lengths (xs : List ℕ) (b : Bool) (ys : List ℕ) : Type 0 where
@@ -50,5 +56,9 @@ lengths xs b ys = record {
 pub sized-not : (n : ℕ) → 65535 < n → None ≡ sized n
 sized-not n h = sym (cond-false (leb n 65535) (Some n) None (lt-leb n 65535 h))
 
-pub sized-is : (m n : ℕ) → m ≡ n → m ≤ 65535 → Some m ≡ sized n
-sized-is m n e h = ap (λ k. Some k) e ∙ sym (cond-true (leb n 65535) (Some n) None (le-leb n 65535 (omega arith)))
+then-some : (b : Bool) (m : ℕ) → then_some b m ≡ cond b (Some m) None
+then-some true m = refl
+then-some false m = refl
+
+pub sized-then : (m n : ℕ) → m ≡ n → then_some (leb m 65535) m ≡ sized n
+sized-then m n e = then-some (leb m 65535) m ∙ ap sized e

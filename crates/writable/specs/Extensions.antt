@@ -8,6 +8,7 @@ use Rattle.telling.specs.Tells.{Tells, stood_in}
 use Rattle.extension.specs.Values.{value_by}
 use Rattle.extension.specs.Extensions.{Extn, unread}
 use Rattle.encode.specs.Der.{der}
+use Rattle.writable.specs.declared.extensions.Bare.{Bare}
 
 -- 01 01 FF, or nothing
 abbrev pub flag_octets : Bool → List ℕ
@@ -20,6 +21,18 @@ extension_content identifier critical content = der 6 identifier ++ (flag_octets
 
 unfoldable pub extension_octets : List ℕ → Bool → List ℕ → List ℕ
 extension_octets identifier critical content = der 48 (extension_content identifier critical content)
+
+-- an extension without its offsets, by its octets
+abbrev pub bare_content : Bare → List ℕ
+bare_content b = extension_content b.identifier.now b.critical b.content.now
+
+abbrev pub bare_octets : Bare → List ℕ
+bare_octets b = extension_octets b.identifier.now b.critical b.content.now
+
+pub record BareOf (e : Extn) (b : Bare) : Type 0 where
+  pub identifier : b.identifier.now ≡ e.identifier.octets
+  pub critical : b.critical ≡ e.critical
+  pub content : b.content.now ≡ e.content.octets
 
 -- the same values told, offsets aside
 pub record AlikeTells (a b : Tells) : Type 0 where

@@ -63,24 +63,23 @@ fn put_reason(reason: Option<Reason>, out: &mut [u8], at: usize) -> usize
         None => at,
         Some(found) => {
             let start = put_head(out, at, SEQUENCE, 12);
-            put_extension(
-                &REASON_CODE,
-                false,
-                &[ENUMERATED, 1, found.number()],
-                out,
-                start,
-            )
+            let extension = Bare {
+                identifier: REASON_CODE,
+                critical: false,
+                content: &[ENUMERATED, 1, u8::from(found)],
+            };
+            extension.put(out, start)
         }
     }
 }
 
-// How many octets the content of an entry has, whose serial has so many.
-fn content_size(serial: usize, date: u64, reason: Option<Reason>) -> usize
-    requires { serial ≤ 65535 }
-    ensures whole { (xs : List ℕ) (o : ℕ) → serial ≡ length xs → result ≡ length (entry_content (record { serial = record { octets = xs; offset = o }; date = date; reason = mapped reason_number reason })) }
-    ensures bound { (serial ≤ result) × (result ≤ serial + 35) }
+// How many octets the content of an entry's item has.
+fn content_size(entry: &Entry) -> usize
+    requires { length (line_of entry.now).serial.octets ≤ 65535 }
+    ensures whole { result ≡ length (entry_content (line_of entry.now)) }
+    ensures bound { (length (line_of entry.now).serial.octets ≤ result) × (result ≤ length (line_of entry.now).serial.octets + 35) }
 {
-    item_size(serial) + (time_size(date) + reason_size(reason))
+    item_size(entry.serial.octets.len()) + (time_size(entry.date) + reason_size(entry.reason))
 }
 
 impl<'a> Writable<'a, Plain> for Entry<'a> {
@@ -91,17 +90,15 @@ impl<'a> Writable<'a, Plain> for Entry<'a> {
     ghost may = { λ a e. MayBeListed (line_of e) };
 
     fn size(&self) -> Option<usize> {
-        let serial = self.serial.octets.len();
-        if serial > MOST_OCTETS {
+        if self.serial.octets.len() > MOST_OCTETS {
             return None;
         }
-        let size = item_size(content_size(serial, self.date, self.reason));
-        if size > MOST_OCTETS { None } else { Some(size) }
+        let size = item_size(content_size(self));
+        (size <= MOST_OCTETS).then_some(size)
     }
 
     fn put(&self, out: &mut [u8], at: usize) -> usize {
-        let content = content_size(self.serial.octets.len(), self.date, self.reason);
-        let start = put_head(out, at, SEQUENCE, content);
+        let start = put_head(out, at, SEQUENCE, content_size(self));
         let date = put_item(out, start, INTEGER, self.serial.octets);
         let reason = put_time(self.date, out, date);
         put_reason(self.reason, out, reason)

@@ -11,10 +11,10 @@ put_head-start-requires c =
     let l = ap (λ o. length (reason_octets (mapped reason_number o))) c.in-Some.is ∙ reason-length (reason_number c.in-Some.found) in
     record { room = omega arith; short = omega arith }
 
-pub put_extension-requires : goal.put_extension-requires
-put_extension-requires c =
+pub put-requires : goal.put-requires
+put-requires c =
     let l = ap (λ o. length (reason_octets (mapped reason_number o))) c.in-Some.is ∙ reason-length (reason_number c.in-Some.found) in
-    let i = reason-inner c.number.result in
+    let i = reason-inner c.from.result in
     record { room = omega (arith, c.put_head-start.ensures.end_is, c.put_head-start.auto.out); short = omega arith }
 
 pub returns-in-None : goal.returns-in-None
@@ -22,5 +22,5 @@ returns-in-None c = moved (sym (ap (λ o. reason_octets (mapped reason_number o)
 
 pub returns-in-Some : goal.returns-in-Some
 returns-in-Some c =
-    moved (ap (λ n. reason_octets (Some n)) c.number.ensures ∙ sym (ap (λ o. reason_octets (mapped reason_number o)) c.in-Some.is))
-    (item (sym (reason-inner c.number.result)) c.put_head-start.ensures c.put_extension.ensures)
+    moved (ap (λ n. reason_octets (Some n)) c.from.ensures ∙ sym (ap (λ o. reason_octets (mapped reason_number o)) c.in-Some.is))
+    (item (sym (reason-inner c.from.result)) c.put_head-start.ensures c.put.ensures)
