@@ -6,3 +6,4 @@ pub mod Entered
 pub mod Listed
 pub mod Apart
 pub mod Laws
+pub mod Counted

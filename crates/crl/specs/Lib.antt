@@ -1,2 +1,3 @@
 pub mod Profile
 pub mod Law
+pub mod Listed

@@ -10,7 +10,7 @@ ghost use Rattle.report.specs.Said.{algorithm_text, block_text, entry_text, entr
 use crate::values::*;
 use algorithm::identifiers::Algorithm;
 use block::fields::{Block, Entries};
-use crl::read::next_entry;
+use crl::each::each_entry;
 use entry::entries::Entry;
 use list::signed::RevocationList;
 use std::fmt;
@@ -34,10 +34,7 @@ impl<'a> fmt::Display for EntryLine<'a> {
 fn reason_number(reason: Option<Reason>) -> Option<u8>
     ensures { result ≡ mapped reason_number reason }
 {
-    match reason {
-        Some(given) => Some(given.number()),
-        None => None,
-    }
+    reason.map(u8::from)
 }
 
 // The entries in their order.
@@ -48,13 +45,7 @@ impl<'a> fmt::Display for EntryLines<'a> {
     ghost output = { λ e. Some (entries_text (mapped piece_of e.0.run) e.0.count) };
 
     fn fmt<W: fmt::Write>(&self, f: &mut fmt::Formatter<W>) -> fmt::Result {
-        let Some(mut left) = self.0.run else {
-            return Ok(());
-        };
-        for turn in 0..self.0.count {
-            let Some(entry) = next_entry(&mut left) else {
-                return Ok(());
-            };
+        for entry in each_entry(self.0) {
             let line = EntryLine(entry);
             write!(f, "{line}")?;
         }
@@ -70,7 +61,7 @@ impl fmt::Display for AlgorithmLine {
     ghost output = { λ a. Some (algorithm_text a.0) };
 
     fn fmt<W: fmt::Write>(&self, f: &mut fmt::Formatter<W>) -> fmt::Result {
-        let code = self.0.code();
+        let code = u8::from(self.0);
         write!(f, "\n  algorithm {code}")
     }
 }

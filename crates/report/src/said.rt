@@ -45,7 +45,7 @@ impl<'o> fmt::Display for Refused<'o> {
     ghost output = { λ r. Some (refused_text (refused_of r.refusal) r.rest.now) };
 
     fn fmt<W: fmt::Write>(&self, f: &mut fmt::Formatter<W>) -> fmt::Result {
-        let number = self.refusal.ground.number();
+        let number = u8::from(self.refusal.ground);
         let input = input_word(self.refusal.input);
         let offset = self.refusal.offset;
         let octets = OrDash(first_octets(self.rest));
