@@ -42,6 +42,7 @@ pub fn walk<'a, S, E: Readable<'a, S> + Drop>(
 {
     // An element takes octets, so that there are no more of them than octets.
     let most = reader.len();
+    // Counted by hand, since the count is the answer and goes on past the end of the memory.
     let mut count = 0;
     loop {
         let element = E::read(reader, state)?;

@@ -1,6 +1,8 @@
 // Octets, headers and items written over a memory from a place on. Each call answers the place after what it wrote.
 // All of these are for the crates that write elements and lists: there the lengths are summed up before anything is
 // written, so that a write that would not fit is refused with the memory untouched. Hence their `requires`.
+// Memory and place stay two arguments: a struct that holds the lent memory was tried, and every contract then needs a
+// clause more, that it still holds that memory.
 ghost use Rattle.std.specs.Prelude.{◌≡◌, ℕ, ◌+◌, ◌<◌, ◌≤◌, List, ◌∷◌, length};
 ghost use Rattle.encode.specs.Over.{Put};
 ghost use Rattle.encode.specs.Der.{der, length_octets, ItemsWritten};

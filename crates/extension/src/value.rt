@@ -32,7 +32,8 @@ fn is_number(octets: &[u8]) -> bool
     octets.len() <= MOST_OCTETS && is_from_zero(octets)
 }
 
-// A list's number: an INTEGER from 0 with at most 20 octets.
+// A list's number: an INTEGER from 0 with at most 20 octets. It, the serial and the version differ in their test alone, and
+// stay apart: a reader that takes the test as a closure needs a clause over all tests for the one `if` that it saves.
 #[tactic(auto, unfolding(crate::specs::Values::number_at))]
 fn number<'a>(reader: &mut Reader<'a>) -> Result<Part<'a>, Fault>
     ensures { told piece_of result reader.new ≡ number_at reader.old }
@@ -72,6 +73,7 @@ pub(crate) fn value_by(role: Role, mut reader: Reader) -> Result<Told, Fault>
     ensures { seen tells_of result ≡ value_by role (part_left reader.entry) }
 {
     let mut told = Told::default();
+    // A match, and no closure for each role: the roles are an enum that is closed, and each tells another field.
     match role {
         Role::Number => told.number = Some(number(&mut reader)?),
         Role::Expired => told.expired = Some(expired(&mut reader)?),

@@ -6,7 +6,7 @@ ghost use Rattle.items.specs.Things.{thing_of, item_number, number_of_tag, time_
 
 use super::item::*;
 
-// The tags that are read.
+// The tags that are read. A tag stays a number and is no enum, since any octet may stand there.
 pub const BOOLEAN: u8 = 0x01;
 
 pub const INTEGER: u8 = 0x02;
