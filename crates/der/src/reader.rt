@@ -1,7 +1,7 @@
 // The reader: goes over the octets item by item, front to back, and stops at the first fault.
 ghost use Rattle.std.specs.Prelude.{◌≡◌, ℕ, ◌+◌, ◌-◌, ◌^◌, ◌<◌, ◌≤◌, ◌↔◌, length, take, drop, IfOk, OnErr, OnOk, IfSome, IsNone, IsTrue};
 ghost use Rattle.der.specs.Reads.{told, seen, start_of, between, part_left, PastAnItem};
-ghost use Rattle.items.specs.Parts.{piece_of};
+ghost use Rattle.items.specs.Parts.{piece_of, HasEnd};
 ghost use Rattle.refusals.specs.Refusals.{flaw_of, fault_at};
 ghost use Rattle.der.specs.Items.{item_at, expect_at, whole_at, raw_at, name_at, end_at, next_is, wholly_of};
 ghost use Rattle.items.specs.Things.{thing_of, item_number, number_of_tag};
@@ -99,7 +99,7 @@ impl<'a> Reader<'a> {
     // What is left, as a part.
     pub fn rest(&self) -> Part<'a>
         ensures part { piece_of result ≡ part_left self.now }
-        ensures within { result.offset + length result.octets.now < 2 ^ 64 }
+        ensures within { HasEnd (piece_of result) }
     {
         Part {
             octets: self.rest,
@@ -125,7 +125,7 @@ impl<'a> Reader<'a> {
         ensures read { told thing_of result self.new ≡ item_at self.old }
         ensures stays { OnErr result (self.new ≡ self.old) }
         ensures number { IfOk result (λ i. item_number i ≡ number_of_tag laid (thing_of i).tag) }
-        ensures within { IfOk result (λ i. (thing_of i).content.offset + length (thing_of i).content.octets < 2 ^ 64) }
+        ensures within { IfOk result (λ i. HasEnd (thing_of i).content) }
         ensures long { OnOk result (PastAnItem self.old self.new) }
     {
         let offset = self.offset;
@@ -149,7 +149,7 @@ impl<'a> Reader<'a> {
     #[tactic(auto, unfolding(crate::specs::Items::expect_at))]
     pub fn expect(&mut self, tag: u8) -> Result<Part<'a>, Fault>
         ensures read { told piece_of result self.new ≡ expect_at tag self.old }
-        ensures within { IfOk result (λ p. p.offset + length p.octets.now < 2 ^ 64) }
+        ensures within { IfOk result (λ p. HasEnd (piece_of p)) }
         ensures long { OnOk result (PastAnItem self.old self.new) }
     {
         let offset = self.offset;
@@ -176,7 +176,7 @@ impl<'a> Reader<'a> {
     #[tactic(auto, unfolding(crate::specs::Items::whole_at))]
     pub fn whole(&mut self, tag: u8) -> Result<Whole<'a>, Fault>
         ensures read { told wholly_of result self.new ≡ whole_at tag self.old }
-        ensures within { IfOk result (λ w. w.content.offset + length w.content.octets.now < 2 ^ 64) }
+        ensures within { IfOk result (λ w. HasEnd (piece_of w.content)) }
         ensures long { OnOk result (PastAnItem self.old self.new) }
     {
         let before = self.rest();
