@@ -19,7 +19,7 @@ count 1 'arms that only hand a value on, or make the error of a None' '(Some|Ok)
 count 1 'an Option made by an if' '\{ None \}|^\s*None$|(return|else \{) None'
 count 1 'a number in place of a kind' 'fn (number|code|row|from_number)\b|\.(number|code)\(\)'
 count 2 'twins: readers of content made in place' 'rest: (\w+\.)*content\.octets|rest: octets,'
-count 2 'twins: a literal for each fault' '(Err\(|=> )?Fault \{$'
+count 2 'twins: a literal for each fault' '(Err\(|^ {4,})Fault \{$'
 count 2 'twins: the same but for a place or a form' "(Readable|Writable)<'a, In(List|Entry)|pub struct In(List|Entry)|fn (read_)?(utc|general|rfc3339)(_text)?\(|fn (small|big)[01]|struct (MomentOrDash|OrDash)\b"
 count 2 'twins: the same but for a test on an octet' 'fn (line_length|blanks|word_length)\('
 count 2 'twins: writes over a part' 'fn (put|over)\('
