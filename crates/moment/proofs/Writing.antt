@@ -2,7 +2,7 @@
 use Rattle.std.proofs.Common.{◌≡◌, ℕ, ◌<◌, List, [], ◌∷◌, get_or, drop, Some, None, Option, sym, ap, ◌∙◌, arith}
 use Rattle.calendar.specs.declared.times.Time.{Time}
 use Rattle.calendar.specs.Moments.{time_of}
-use Rattle.calendar.proofs.Clocks.{moments-and-times, moment-valid}
+use Rattle.calendar.proofs.Clocks.{moments_and_times, moment-valid}
 use Rattle.moment.specs.Forms.{lay}
 use Rattle.moment.specs.Texts.{digits_of, written}
 
@@ -22,4 +22,4 @@ pub written_none : (form : List ℕ) (n m : ℕ) → None ≡ time_of m → None
 written_none form n m e = ap (written form n) e
 
 pub four-digit-year : (m : ℕ) (t : Time) → Some t ≡ time_of m → t.date.year < 10000
-four-digit-year m t e = let v = moment-valid t m ((moments-and-times m t).0 (sym e)) in omega (arith, v.0.date.year-to)
+four-digit-year m t e = let v = moment-valid t m ((moments_and_times m t).0 (sym e)) in omega (arith, v.0.date.year-to)
