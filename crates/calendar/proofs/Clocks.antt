@@ -66,9 +66,9 @@ moment-time t v =
     ∙ ap (λ x. let q : Time = record { date = t.date; hour = t.hour; minute = x; second = m % 60 } in q) i
     ∙ ap (λ x. let q : Time = record { date = t.date; hour = t.hour; minute = t.minute; second = x } in q) s
 
-pub moments_and_times : MomentsAndTimes
+pub moments-and-times : MomentsAndTimes
 unfolding moment_of time_of
-moments_and_times m t = (
+moments-and-times m t = (
   λ e.
       let a = answered (is_moment m) (time_at m) t e in
       let h : m ≤ 254033452799 = leb-true _ _ a.0 in

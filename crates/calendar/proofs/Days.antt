@@ -154,8 +154,8 @@ answered {A} b y z e =
 pub answers : {A : Type 0} (b : Bool) (y z : A) → b ≡ true → y ≡ z → cond b (Some y) None ≡ Some z
 answers b y z t e = cond-true b (Some y) None t ∙ ap Some e
 
-pub days_and_dates : DaysAndDates
-days_and_dates x d = (
+pub days-and-dates : DaysAndDates
+days-and-dates x d = (
   λ e.
       let a = answered (ltb x 2940202) (date_on x) d e in
       let h : x < 2940202 = ltb-true _ _ a.0 in

@@ -96,7 +96,7 @@ fn month_of(year: u16, day: u32) -> u8
 }
 
 // The date that many days after 1950-01-01, up to the last of 9999.
-#[tactic(auto, using(crate::proofs::Years::day_of_month, crate::proofs::Days::days_and_dates))]
+#[tactic(auto, using(crate::proofs::Years::day_of_month, crate::proofs::Laws::laws))]
 pub fn date_of(day: u32) -> Option<Date>
     ensures date { result ≡ date_of day }
     ensures inverse { DaysAndDates }

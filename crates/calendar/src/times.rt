@@ -24,7 +24,7 @@ pub fn is_moment(m: u64) -> bool
 }
 
 // The date and the time of day of a moment.
-#[tactic(auto, using(crate::proofs::Clocks::moments_and_times), unfolding(crate::specs::Moments::time_of, crate::specs::Moments::time_at))]
+#[tactic(auto, using(crate::proofs::Laws::laws), unfolding(crate::specs::Moments::time_of, crate::specs::Moments::time_at))]
 pub fn time_of(m: u64) -> Option<Time>
     ensures time { result ≡ time_of m }
     ensures inverse { MomentsAndTimes }

@@ -7,7 +7,7 @@ use Rattle.calendar.specs.Moments.{is_moment, moment_of, time_at, time_of, secon
 use Rattle.calendar.proofs.Lasts.{rises}
 use Rattle.calendar.proofs.Years.{days_to-is, years-rise}
 use Rattle.calendar.proofs.Days.{day-placed}
-use Rattle.calendar.proofs.Clocks.{ValidTime, time-valid, moment-within, moment-valid, moments_and_times}
+use Rattle.calendar.proofs.Clocks.{ValidTime, time-valid, moment-within, moment-valid, moments-and-times}
 use Rattle.moment.specs.Forms.{utc_form, general_form, rfc3339_form, fits, lay}
 use Rattle.moment.specs.Texts.{digits_of, written, read_as, utc_text, utc_read, utc_time, general_text, general_read}
 use Rattle.moment.specs.Texts.{general_time, rfc3339_text, rfc3339_read, rfc3339_time}
@@ -31,7 +31,7 @@ reads-back-by form n spelled m h s e =
     let ds = drop n (digits_of t) in
     let d = fewer_digits n (digits_of t) (time-digits t (valid-short t (time-valid m h))) in
     cond-true (fits form (lay form ds)) (moment_of (spelled (lay form ds))) None (laid-fits form ds s d)
-    ∙ ap moment_of e ∙ (moments_and_times m t).0 (moment-has-time m h)
+    ∙ ap moment_of e ∙ (moments-and-times m t).0 (moment-has-time m h)
 
 -- what a reader found
 read_found : (form : List ℕ) (t : Time) (xs : List ℕ) (m : ℕ) → read_as form t xs ≡ Some m
@@ -51,7 +51,7 @@ writes-back-by form n t xs m e d =
     let v = moment-valid t m e in
     let w = moment-within t v.0 in (
       omega (arith, v.1),
-      ap (written form n) ((moments_and_times m t).1 e) ∙ ap (λ ys. let o : Option (List ℕ) = Some ys in o) d,
+      ap (written form n) ((moments-and-times m t).1 e) ∙ ap (λ ys. let o : Option (List ℕ) = Some ys in o) d,
     )
 
 pub general-inverse : GeneralizedTimeInverse
@@ -112,7 +112,7 @@ utc-inverse =
           let t = time_at m in
           let l : m ≤ 254033452799 = omega arith in
           let v = time-valid m l in
-          let e = (moments_and_times m t).0 (moment-has-time m l) in
+          let e = (moments-and-times m t).0 (moment-has-time m l) in
           let s = (moment-valid t m e).1 in
           let y = before-2050 t v (omega (arith, s)) in
           let u : m < 3155760000 = omega arith in (

@@ -9,7 +9,7 @@ use Rattle.calendar.specs.Moments.{time_of, seconds_to}
 use Rattle.calendar.proofs.Lasts.{Rises, rises}
 use Rattle.calendar.proofs.Years.{years-rise, months-rise}
 use Rattle.calendar.proofs.Days.{Valid, day-placed}
-use Rattle.calendar.proofs.Clocks.{ValidTime, moment-valid, moments_and_times}
+use Rattle.calendar.proofs.Clocks.{ValidTime, moment-valid, moments-and-times}
 use Rattle.moment.specs.Forms.{general_form, rfc3339_form, lay, tens, ones, before}
 use Rattle.moment.specs.Texts.{digits_of, written, general_text, rfc3339_text}
 use Rattle.moment.specs.Law.{GeneralizedTimeOrdered, Rfc3339Ordered}
@@ -129,8 +129,8 @@ written-order form m n xs ys s a b =
     let q = written-time form (time_of n) ys b in
     let t = p.0 in
     let u = q.0 in
-    let v = moment-valid t m ((moments_and_times m t).0 p.1) in
-    let w = moment-valid u n ((moments_and_times n u).0 q.1) in
+    let v = moment-valid t m ((moments-and-times m t).0 p.1) in
+    let w = moment-valid u n ((moments-and-times n u).0 q.1) in
     ap (λ zs. before zs ys) (sym p.2) ∙ ap (before (lay form (digits_of t))) (sym q.2)
     ∙ laid-order form (digits_of t) (digits_of u) s s
     ∙ time-order t u v.0 w.0
