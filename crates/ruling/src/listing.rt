@@ -10,24 +10,21 @@ use crate::cases::*;
 pub fn covers(facts: Facts, issuer: u8, moments: Moments) -> bool
     ensures { result ≡ covers_by facts issuer moments }
 {
-    let kept = match facts.expired {
-        Some(expired) => expired <= moments.not_after,
-        None => facts.this_update <= moments.not_after,
-    };
-    facts.issuer == issuer && moments.not_before < facts.this_update && kept
+    facts.issuer == issuer
+        && moments.not_before < facts.this_update
+        && facts.expired.unwrap_or(facts.this_update) <= moments.not_after
 }
 
 // The earlier of what was found and a later entry of the same serial.
 fn earlier(found: Option<Mark>, entry: &EntryLine) -> Option<Mark>
     ensures { found_of result ≡ earlier_of (found_of found) (entry_of entry.now) }
 {
-    let next = Mark {
-        date: entry.date,
-        reason: entry.reason,
-    };
     match found {
-        Some(mark) if mark.date <= next.date => found,
-        _ => Some(next),
+        Some(mark) if mark.date <= entry.date => found,
+        _ => Some(Mark {
+            date: entry.date,
+            reason: entry.reason,
+        }),
     }
 }
 
@@ -35,13 +32,10 @@ fn earlier(found: Option<Mark>, entry: &EntryLine) -> Option<Mark>
 fn earliest(entries: &[EntryLine], serial: &[u8]) -> Option<Mark>
     ensures { found_of result ≡ earliest_in serial.now (map entry_of entries.now) None }
 {
-    let mut found = None;
-    for entry in entries {
-        if entry.is_of(serial) {
-            found = earlier(found, entry);
-        }
-    }
-    found
+    entries
+        .iter()
+        .filter(|entry| entry.is_of(serial))
+        .fold(None, earlier)
 }
 
 // What a list that covers the certificate rules, by the serial's earliest revocation in it.
@@ -49,23 +43,10 @@ fn judge(found: Option<Mark>, control_time: u64, caution: u64, this_update: u64)
     ensures { ruling_of result ≡ judged (found_of found) control_time caution this_update }
 {
     match found {
-        Some(mark) => {
-            if control_time < mark.date {
-                Ruling::Valid
-            } else {
-                Ruling::Revoked {
-                    date: mark.date,
-                    reason: mark.reason,
-                }
-            }
-        }
-        None => {
-            if control_time as u128 + caution as u128 <= this_update as u128 {
-                Ruling::Valid
-            } else {
-                Ruling::Waiting
-            }
-        }
+        Some(Mark { date, .. }) if control_time < date => Ruling::Valid,
+        Some(Mark { date, reason }) => Ruling::Revoked { date, reason },
+        None if control_time as u128 + caution as u128 <= this_update as u128 => Ruling::Valid,
+        None => Ruling::Waiting,
     }
 }
 
