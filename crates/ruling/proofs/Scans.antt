@@ -1,19 +1,16 @@
--- A serial cut at its size, and one step and the end of each loop.
-use Rattle.std.proofs.Common.{◌≡◌, ℕ, ◌+◌, min, cond, List, [], ◌∷◌, map, filter, length, take, Option, sym, refl, ap, ◌∙◌, inl, inr, ⊎_elim, arith}
+-- A serial cut at its size, and rulings heard in a fold.
+use Rattle.std.proofs.Common.{◌≡◌, ℕ, ◌+◌, min, List, [], ◌∷◌, map, length, take, Option, sym, refl, ap, ◌∙◌, ⊎_elim, arith}
 use Rattle.std.specs.Fn.{Called}
 use Rattle.std.specs.Iterator.{Drains}
 use Rattle.std.specs.List.{fold, FoldsTo, enumerate_from}
-use Rattle.std.specs.Str.{bytes_eq}
 use Rattle.std.proofs.lemmas.Fn.{fold_over}
 use Rattle.std.proofs.lemmas.Iterator.{YieldsList}
 use Rattle.std.proofs.lemmas.List.{take_all}
 use Rattle.std.proofs.lemmas.List.Sums.{fold_push}
-use Rattle.std.proofs.lemmas.Bool.{cases_Bool, cases_lt, cond-true, cond-false}
+use Rattle.std.proofs.lemmas.Bool.{cases_lt}
 use denote.Param.Members.{Mut}
-use Rattle.ruling.specs.Cases.{Dated, Told, entry_of, serial_of, ruling_of}
-use Rattle.ruling.specs.Rule.{earliest_in, earlier_of}
+use Rattle.ruling.specs.Cases.{Told, ruling_of}
 use Rattle.ruling.specs.Answers.{heard, moved}
-use Rattle.ruling.specs.declared.cases.EntryLine.{EntryLine}
 use Rattle.ruling.specs.declared.cases.Ruling.{Ruling}
 
 -- the octets of a line are 20, so that a greater size takes no more
@@ -35,22 +32,6 @@ folded_by {S} {A} {B} {F} {C} {D} {steps} {v} {g} {s} {all} view h f init r ran 
     let m = step a x b q k in
     (m.0 ∙ ap (λ d. h d (v x)) e ∙ sym (fold_push h (view init) ys (v x)), m.1))
     s all init r y.runs refl ran
-
--- the earliest of the entries of a serial, one after the other
-pub earliest_folded : (s : List ℕ) (es : List EntryLine) (found : Option Dated)
-    → fold (λ d e. earlier_of d (entry_of e)) found (filter (λ e. bytes_eq (serial_of e) s) es) ≡ earliest_in s (map entry_of es) found
-unfolding earliest_in
-earliest_folded s [] found = refl
-earliest_folded s (e ∷ es) found =
-    let b = bytes_eq (serial_of e) s in
-    let rest = filter (λ x. bytes_eq (serial_of x) s) es in
-    let next = earlier_of found (entry_of e) in
-    let F : List EntryLine → Option Dated = fold (λ d x. earlier_of d (entry_of x)) found in
-    let G : Option Dated → Option Dated = earliest_in s (map entry_of es) in
-    elim (cases_Bool b) [
-      | inl t ↦ ap F (cond-true b (e ∷ rest) rest t) ∙ earliest_folded s es next ∙ ap G (sym (cond-true b next found t))
-      | inr t ↦ ap F (cond-false b (e ∷ rest) rest t) ∙ earliest_folded s es found ∙ ap G (sym (cond-false b next found t))
-    ]
 
 -- each ruling heard with its list's number
 pub heard_folded : (k : ℕ) (rs : List Ruling) (a : Told)

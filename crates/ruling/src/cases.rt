@@ -29,7 +29,7 @@ pub struct Facts {
     pub expired: Option<u64>,
 }
 
-// An entry of a list. The serial is the first `size` of the octets.
+// An entry of a list. The serial is the first `size` of the octets: a line of a lent table has a fixed size and no heap.
 #[derive(Clone, Copy)]
 pub struct EntryLine {
     pub serial: [u8; 20],
@@ -38,7 +38,7 @@ pub struct EntryLine {
     pub reason: Option<Reason>,
 }
 
-// When and why a serial was revoked.
+// When and why a serial was revoked. Where it stands with other values, as in `Ruling`, callers name its two parts.
 #[derive(Clone, Copy)]
 pub struct Mark {
     pub date: u64,

@@ -1,7 +1,7 @@
 // How one list rules on a question.
 ghost use Rattle.std.specs.Prelude.{◌≡◌, map, Some, None};
 ghost use Rattle.ruling.specs.Cases.{entry_of, asked_of, found_of, ruling_of};
-ghost use Rattle.ruling.specs.Rule.{covers_by, earlier_of, earliest_in, judged, ruled_by};
+ghost use Rattle.ruling.specs.Rule.{covers_by, earliest_in, judged, ruled_by};
 ghost use Rattle.ruling.specs.Table.{Rules, Only};
 
 use crate::cases::*;
@@ -15,19 +15,6 @@ pub fn covers(facts: Facts, issuer: u8, moments: Moments) -> bool
         && facts.expired.unwrap_or(facts.this_update) <= moments.not_after
 }
 
-// The earlier of what was found and a later entry of the same serial.
-fn earlier(found: Option<Mark>, entry: &EntryLine) -> Option<Mark>
-    ensures { found_of result ≡ earlier_of (found_of found) (entry_of entry.now) }
-{
-    match found {
-        Some(mark) if mark.date <= entry.date => found,
-        _ => Some(Mark {
-            date: entry.date,
-            reason: entry.reason,
-        }),
-    }
-}
-
 // The earliest date of a serial in the entries, with the reason of the first entry of that date.
 fn earliest(entries: &[EntryLine], serial: &[u8]) -> Option<Mark>
     ensures { found_of result ≡ earliest_in serial.now (map entry_of entries.now) None }
@@ -35,7 +22,11 @@ fn earliest(entries: &[EntryLine], serial: &[u8]) -> Option<Mark>
     entries
         .iter()
         .filter(|entry| entry.is_of(serial))
-        .fold(None, earlier)
+        .map(|entry| Mark {
+            date: entry.date,
+            reason: entry.reason,
+        })
+        .min_by_key(|mark| mark.date)
 }
 
 // What a list that covers the certificate rules, by the serial's earliest revocation in it.
