@@ -1,12 +1,13 @@
 -- Moments and times are inverse.
 use Rattle.std.proofs.Common.{◌≡◌, ℕ, ◌*◌, ◌/◌, ◌%◌, ◌≤◌, true, ◌&&◌, leb, Some, sym, ap, ◌∙◌, arith}
 use Rattle.std.proofs.lemmas.Bool.{and_parts, and_from, leb-true, le-leb}
+use Rattle.std.proofs.lemmas.Option.{cond_some}
 use Rattle.calendar.specs.Dates.{is_date, day_in, date_on}
 use Rattle.calendar.specs.Moments.{is_moment, is_time, seconds_to, moment_of, time_at, time_of}
 use Rattle.calendar.specs.Law.{MomentsAndTimes}
 use Rattle.calendar.specs.declared.times.Time.{Time}
 use Rattle.calendar.proofs.Days.{Valid, valid-is-date, is-date-valid, date-valid, date-day, day-within, day-date}
-use Rattle.calendar.proofs.Days.{answered, answers}
+use Rattle.calendar.proofs.Days.{answers}
 
 -- a time that exists, bound by bound
 pub record ValidTime (t : Time) : Type 0 where
@@ -70,13 +71,13 @@ pub moments-and-times : MomentsAndTimes
 unfolding moment_of time_of
 moments-and-times m t = (
   λ e.
-      let a = answered (is_moment m) (time_at m) t e in
+      let a = cond_some (is_moment m) (time_at m) t e in
       let h : m ≤ 254033452799 = leb-true _ _ a.0 in
       answers (is_time t) (seconds_to t) m
       (ap is_time (sym a.1) ∙ valid-is-time (time_at m) (time-valid m h))
       (ap seconds_to (sym a.1) ∙ time-moment m h),
   λ e.
-      let a = answered (is_time t) (seconds_to t) m e in
+      let a = cond_some (is_time t) (seconds_to t) m e in
       let v = is-time-valid t a.0 in
       let w = moment-within t v in
       answers (is_moment m) (time_at m) t
@@ -87,4 +88,4 @@ moments-and-times m t = (
 -- a time that is a moment exists
 pub moment-valid : (t : Time) (m : ℕ) → moment_of t ≡ Some m → ValidTime t × (seconds_to t ≡ m)
 unfolding moment_of
-moment-valid t m e = let a = answered (is_time t) (seconds_to t) m e in (is-time-valid t a.0, a.1)
+moment-valid t m e = let a = cond_some (is_time t) (seconds_to t) m e in (is-time-valid t a.0, a.1)

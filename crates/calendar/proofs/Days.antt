@@ -1,6 +1,7 @@
 -- Days and dates are inverse.
-use Rattle.std.proofs.Common.{◌≡◌, ℕ, suc, ◌+◌, ◌-◌, ◌<◌, ◌≤◌, Bool, true, cond, ◌&&◌, ltb, leb, Some, None, Option, sym, ap, ◌∙◌, inl, inr, arith}
-use Rattle.std.proofs.lemmas.Bool.{cases_lt, cases_Bool, and_parts, and_from, leb-true, le-leb, ltb-true, lt-ltb, cond-true}
+use Rattle.std.proofs.Common.{◌≡◌, ℕ, suc, ◌+◌, ◌-◌, ◌<◌, ◌≤◌, Bool, true, cond, ◌&&◌, ltb, leb, Some, None, sym, ap, ◌∙◌, inl, inr, arith}
+use Rattle.std.proofs.lemmas.Bool.{cases_lt, and_parts, and_from, leb-true, le-leb, ltb-true, lt-ltb, cond-true}
+use Rattle.std.proofs.lemmas.Option.{cond_some}
 use Rattle.calendar.specs.Dates.{year_days, days_to, days_in, month_start, is_date, day_in, years_by, month_on, date_in}
 use Rattle.calendar.specs.Dates.{date_on}
 use Rattle.calendar.specs.Law.{DaysAndDates}
@@ -140,30 +141,20 @@ day-date d v =
     ∙ ap (λ j. let q : Date = record { year = y; month = j; day = r - month_start y j + 1 } in q) (sym m)
     ∙ ap (λ j. let q : Date = record { year = y; month = d.month; day = j } in q) de
 
--- where a test that guards an answer passed, and what the answer is
-pub answered : {A : Type 0} (b : Bool) (y z : A) → cond b (Some y) None ≡ Some z → (b ≡ true) × (y ≡ z)
-answered {A} b y z e =
-    elim (cases_Bool b) [
-      | inl t ↦ (t, let f : Some y ≡ Some z = sym (cond-true b (Some y) None t) ∙ e in cc)
-      | inr t ↦
-          let f : Option A → Option A = λ o. o in
-          let n : cond b (f (Some y)) None ≡ None = ap (λ c. cond c (f (Some y)) None) t in
-          absurd (let q : ◌≡◌ {A = ℕ} 0 1 = cc in omega arith)
-    ]
-
+-- an answer that a test guards, where the test passes
 pub answers : {A : Type 0} (b : Bool) (y z : A) → b ≡ true → y ≡ z → cond b (Some y) None ≡ Some z
 answers b y z t e = cond-true b (Some y) None t ∙ ap Some e
 
 pub days-and-dates : DaysAndDates
 days-and-dates x d = (
   λ e.
-      let a = answered (ltb x 2940202) (date_on x) d e in
+      let a = cond_some (ltb x 2940202) (date_on x) d e in
       let h : x < 2940202 = ltb-true _ _ a.0 in
       answers (is_date d) (day_in d) x
       (ap is_date (sym a.1) ∙ valid-is-date (date_on x) (date-valid x h))
       (ap day_in (sym a.1) ∙ date-day x h),
   λ e.
-      let a = answered (is_date d) (day_in d) x e in
+      let a = cond_some (is_date d) (day_in d) x e in
       let v = is-date-valid d a.0 in
       let w = day-within d v in
       answers (ltb x 2940202) (date_on x) d

@@ -1,6 +1,7 @@
 -- The last step that begins by x is the one that holds x.
-use Rattle.std.proofs.Common.{◌≡◌, ℕ, zero, suc, ◌+◌, ◌-◌, ◌<◌, ◌≤◌, leb, refl, subst, inl, inr, arith}
-use Rattle.std.proofs.lemmas.Bool.{cond_both, leb-true, leb-false, cases_order}
+use Rattle.std.proofs.Common.{◌≡◌, ℕ, zero, suc, ◌+◌, ◌-◌, ◌<◌, ◌≤◌, leb, Some, None, Option, refl, ap, subst, inl, inr, arith}
+use Rattle.std.specs.Option.{MatchOption, unwrap_or}
+use Rattle.std.proofs.lemmas.Bool.{cond_both, leb-true, leb-false, cases_lt, cases_order}
 use Rattle.calendar.specs.Last.{last_within}
 
 pub last-le : (S : ℕ → ℕ) (n x : ℕ) → last_within S n x ≤ n
@@ -56,3 +57,24 @@ one-step S up a b x la ua lb ub =
 pub last-is : (S : ℕ → ℕ) → Rises S → (n k x : ℕ)
     → S 0 ≤ x → x < S (suc n) → S k ≤ x → x < S (suc k) → k ≡ last_within S n x
 last-is S up n k x z t l u = one-step S up k (last_within S n x) x l u (last-begun S n x z) (last-open S n x t)
+
+-- each step from a up to before i ends by x
+abbrev pub EndBy : (ℕ → ℕ) → ℕ → ℕ → ℕ → Type 0
+EndBy S x a i = (k : ℕ) → a ≤ k → k < i → S (k + 1) ≤ x
+
+begun_after : (S : ℕ → ℕ) (x a i : ℕ) → a ≤ i → S a ≤ x → EndBy S x a i → S i ≤ x
+begun_after S x a i le h all =
+    elim (cases_lt a i) [
+      | inl l ↦
+          let e : i - 1 + 1 ≡ i = omega arith in
+          let b = all (i - 1) (omega arith) (omega arith) in
+          omega (arith, ap S e)
+      | inr l ↦ let e : i ≡ a = omega arith in omega (arith, ap S e)
+    ]
+
+-- the first step from a on that ends after x, or n, is the one that holds x
+pub first_holds : (S : ℕ → ℕ) (x a n : ℕ) → a ≤ n → S a ≤ x → x < S (n + 1) → (r : Option ℕ)
+    → MatchOption r (EndBy S x a n) (λ i. (a ≤ i) × (i < n) × (x < S (i + 1)) × EndBy S x a i)
+    → (a ≤ unwrap_or r n) × (unwrap_or r n ≤ n) × (S (unwrap_or r n) ≤ x) × (x < S (unwrap_or r n + 1))
+first_holds S x a n le h u None all = (le, omega arith, begun_after S x a n le h all, u)
+first_holds S x a n le h u (Some i) f = (f.0, omega (arith, f.1), begun_after S x a i f.0 h f.3, f.2)

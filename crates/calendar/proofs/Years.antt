@@ -1,5 +1,7 @@
 -- How the years and the months of a year follow one another.
 use Rattle.std.proofs.Common.{◌≡◌, ℕ, zero, suc, ◌+◌, ◌-◌, ◌*◌, ◌/◌, ◌<◌, ◌≤◌, refl, ap, ◌∙◌, inl, inr, arith}
+use Rattle.std.specs.List.{sum_by, range_with_len}
+use Rattle.std.proofs.lemmas.List.Sums.{sum_by-cons}
 use Rattle.std.proofs.lemmas.Bool.{cases_lt}
 use Rattle.std.proofs.lemmas.Bool.Decides.{nat_tests}
 use Rattle.calendar.specs.Dates.{year_days, days_to, days_in, month_start}
@@ -63,13 +65,25 @@ pub no-months : (y : ℕ) → (month_start y 0 ≡ 0) × (month_start y 1 ≡ 0)
 unfolding month_start
 no-months y = (refl, refl)
 
--- a month that begins within the year is one of the twelve
-pub month-within : (y m r : ℕ) → month_start y m ≤ r → r < year_days y → m ≤ 12
-month-within y m r l h =
-    elim (cases_lt m 13) [
-      | inl k ↦ omega arith
-      | inr k ↦ absurd (let u = rises (month_start y) (months-rise y) 13 m k in omega (arith, all-months y))
-    ]
+-- the days of n months, from month a on
+pub months-sum : (y a n : ℕ) → sum_by (days_in y) (range_with_len a n) + month_start y a ≡ month_start y (a + n)
+months-sum y a zero = let e : a ≡ a + 0 = omega arith in omega (arith, ap (month_start y) e)
+months-sum y a (suc n) =
+    let h = months-sum y (a + 1) n in
+    let i : a + 1 ≡ suc a = omega arith in
+    let e : a + 1 + n ≡ a + suc n = omega arith in
+    let s = sum_by-cons (days_in y) a (range_with_len (a + 1) n) in
+    omega (arith, h, s, month-next y a, ap (month_start y) i, ap (month_start y) e)
+
+-- the days of the months before month m
+pub months-before : (y m : ℕ) → 1 ≤ m → sum_by (days_in y) (range_with_len 1 (m - 1)) ≡ month_start y m
+months-before y m h =
+    let e : 1 + (m - 1) ≡ m = omega arith in
+    omega (arith, months-sum y 1 (m - 1), no-months y, ap (month_start y) e)
+
+pub month-start-short : (y m : ℕ) → m ≤ 13 → month_start y m ≤ 366
+month-start-short y m h =
+    let u = rises (month_start y) (months-rise y) m 13 h in omega (arith, all-months y, year-long y)
 
 -- a year that begins within the calendar is one of its years
 pub year-within : (k x : ℕ) → days_to k ≤ x → x < 2940202 → k ≤ 8049
@@ -85,3 +99,11 @@ month-short y m = grind (arith, nat_tests)
 
 pub month-is : (y m : ℕ) → 1 ≤ days_in y m → (1 ≤ m) × (m ≤ 12)
 month-is y m h = (grind (arith, nat_tests), grind (arith, nat_tests))
+
+-- the day of a month that holds day r of the year
+pub day_of_month : (y m r : ℕ) → month_start y m ≤ r → r < month_start y (m + 1)
+    → (r - month_start y m + 1 ≤ days_in y m) × (days_in y m ≤ 31)
+day_of_month y m r l h =
+    let i : m + 1 ≡ suc m = omega arith in
+    let e = ap (month_start y) i in
+    (omega (arith, month-next y m), month-short y m)

@@ -2,7 +2,7 @@
 #![tactic(auto)]
 
 ghost use Rattle.std.specs.Prelude.{◌≡◌, ◌+◌, ◌-◌, ◌<◌, ◌≤◌};
-ghost use Rattle.calendar.specs.Dates.{leap_year, days_in, days_to, month_start, is_date, day_of, date_of};
+ghost use Rattle.calendar.specs.Dates.{leap_year, year_days, days_in, days_to, month_start, is_date, day_of, date_of};
 ghost use Rattle.calendar.specs.Law.{DaysAndDates};
 
 pub mod times;
@@ -10,7 +10,8 @@ pub mod times;
 // The days from 1950-01-01 to 9999-12-31.
 const ALL_DAYS: u32 = 2_940_202;
 
-#[derive(Clone, Copy)]
+// Dates in the order of time.
+#[derive(Clone, Copy, Debug, PartialEq, Eq, PartialOrd, Ord)]
 pub struct Date {
     pub year: u16,
     pub month: u8,
@@ -40,10 +41,10 @@ pub fn days_in(year: u16, month: u8) -> u8
 pub fn is_date(date: Date) -> bool
     ensures { result ≡ is_date date }
 {
-    match (date.year, date.month, date.day) {
-        (1950..=9999, 1..=12, 1..=31) if date.day <= days_in(date.year, date.month) => true,
-        _ => false,
-    }
+    matches!(
+        (date.year, date.month, date.day),
+        (1950..=9999, 1..=12, 1..=31) if date.day <= days_in(date.year, date.month)
+    )
 }
 
 // The days from 1950 to the year's first, by the leap years up to the year before it.
@@ -60,11 +61,7 @@ fn month_start(year: u16, month: u8) -> u32
     requires { (1 ≤ month) × (month ≤ 12) }
     ensures { (result ≡ month_start year month) × (result ≤ 400) }
 {
-    let mut sum: u32 = 0;
-    for m in 1..month {
-        sum += days_in(year, m) as u32;
-    }
-    sum
+    (1..month).map(|m| u32::from(days_in(year, m))).sum()
 }
 
 // The days from 1950-01-01 to the date, where the calendar has it.
@@ -77,19 +74,29 @@ pub fn day_of(date: Date) -> Option<u32>
     Some(year_start(date.year) + (month_start(date.year, date.month) + (date.day as u32 - 1)))
 }
 
-// The year that the day falls in. No year has more than 366 days, so the first guess is never late.
+// The year that the day falls in. No year has more than 366 days, so the first that is tried is never late.
 fn year_of(day: u32) -> u16
     requires { day < 2940202 }
     ensures { (1950 ≤ result) × (result ≤ 9999) × (days_to (result - 1950) ≤ day) × (day < days_to (result - 1950 + 1)) }
 {
-    let mut year = 1950 + (day / 366) as u16;
-    while year_start(year + 1) <= day {
-        year += 1;
-    }
-    year
+    let first = 1950 + (day / 366) as u16;
+    (first..9999)
+        .find(|year| day < year_start(year + 1))
+        .unwrap_or(9999)
+}
+
+// The month that the day of the year falls in: the first whose next month begins after the day, or else December.
+fn month_of(year: u16, day: u32) -> u8
+    requires { day < year_days year }
+    ensures { (1 ≤ result) × (result ≤ 12) × (month_start year result ≤ day) × (day < month_start year (result + 1)) }
+{
+    (1..12)
+        .find(|month| day < month_start(year, month + 1))
+        .unwrap_or(12)
 }
 
 // The date that many days after 1950-01-01, up to the last of 9999.
+#[tactic(auto, using(crate::proofs::Years::day_of_month, crate::proofs::Laws::laws))]
 pub fn date_of(day: u32) -> Option<Date>
     ensures date { result ≡ date_of day }
     ensures inverse { DaysAndDates }
@@ -98,15 +105,11 @@ pub fn date_of(day: u32) -> Option<Date>
         return None;
     }
     let year = year_of(day);
-    let mut rest = day - year_start(year);
-    let mut month = 1;
-    while rest >= days_in(year, month) as u32 {
-        rest -= days_in(year, month) as u32;
-        month += 1;
-    }
+    let rest = day - year_start(year);
+    let month = month_of(year, rest);
     Some(Date {
         year,
         month,
-        day: rest as u8 + 1,
+        day: (rest - month_start(year, month)) as u8 + 1,
     })
 }

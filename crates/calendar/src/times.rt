@@ -8,7 +8,8 @@ use crate::*;
 // The last second of 9999.
 pub const LAST_MOMENT: u64 = 254_033_452_799;
 
-#[derive(Clone, Copy)]
+// Times in their order.
+#[derive(Clone, Copy, Debug, PartialEq, Eq, PartialOrd, Ord)]
 pub struct Time {
     pub date: Date,
     pub hour: u8,
@@ -23,6 +24,7 @@ pub fn is_moment(m: u64) -> bool
 }
 
 // The date and the time of day of a moment.
+#[tactic(auto, using(crate::proofs::Laws::laws), unfolding(crate::specs::Moments::time_of, crate::specs::Moments::time_at))]
 pub fn time_of(m: u64) -> Option<Time>
     ensures time { result ≡ time_of m }
     ensures inverse { MomentsAndTimes }
@@ -43,13 +45,11 @@ pub fn time_of(m: u64) -> Option<Time>
 pub fn is_time(time: Time) -> bool
     ensures { result ≡ is_time time }
 {
-    match (time.hour, time.minute, time.second) {
-        (0..=23, 0..=59, 0..=59) => is_date(time.date),
-        _ => false,
-    }
+    is_date(time.date) && time.hour <= 23 && time.minute <= 59 && time.second <= 59
 }
 
 // The moment of a date and a time of day, where both exist.
+#[tactic(auto, unfolding(crate::specs::Moments::moment_of))]
 pub fn moment_of(time: Time) -> Option<u64>
     ensures { result ≡ moment_of time }
 {

@@ -1,7 +1,8 @@
 -- Texts that have a form, and digits laid into it.
-use Rattle.std.proofs.Common.{◌≡◌, ℕ, zero, suc, ◌+◌, ◌<◌, ◌≤◌, Bool, true, false, cond, ◌&&◌, ◌||◌, eqb, ltb, List, [], ◌∷◌, length, get_or, drop, sym, refl, ap, ◌∙◌, inl, inr, arith}
-use Rattle.std.proofs.lemmas.List.{drop_more, drop_all}
+use Rattle.std.proofs.Common.{◌≡◌, ℕ, zero, suc, Bool, true, false, cond, ◌&&◌, ◌||◌, eqb, ltb, List, [], ◌∷◌, length, get_or, sym, refl, ap, ◌∙◌, inl, inr, arith}
+use Rattle.std.specs.List.{list_all, zip}
 use Rattle.std.proofs.lemmas.Bool.{cases_Bool, and_parts, and_from, both_ways, eqb-true, eq-eqb, le-ltb, cond-true, cond-false}
+use Rattle.std.proofs.lemmas.Bool.Decides.{nat_tests}
 use Rattle.moment.specs.Forms.{digit, fills, fits, lay, before}
 
 pub fits-length : (form xs : List ℕ) → fits form xs ≡ true → length xs ≡ length form
@@ -11,9 +12,9 @@ fits-length [] (x ∷ xs) e = absurd (both_ways false refl e)
 fits-length (f ∷ fs) [] e = absurd (both_ways false refl e)
 fits-length (f ∷ fs) (x ∷ xs) e = ap suc (fits-length fs xs (and_parts (fills f x) (fits fs xs) e).1)
 
-pub longer-fits-not : (form xs : List ℕ) → (length xs ≡ length form → ⊥) → false ≡ fits form xs
-longer-fits-not form xs n =
-    elim (cases_Bool (fits form xs)) [ inl t ↦ absurd (n (fits-length form xs t)) | inr f ↦ sym f ]
+pub longer_fits_not : (form xs : List ℕ) → (length form ≡ length xs → ⊥) → eqb (length form) (length xs) ≡ fits form xs
+longer_fits_not form xs n =
+    elim (cases_Bool (fits form xs)) [ inl t ↦ absurd (n (sym (fits-length form xs t))) | inr f ↦ grind (arith, nat_tests) ]
 
 -- what fits a form has a digit where the form has a 0
 pub digit_at : (form xs : List ℕ) (k : ℕ) → fits form xs ≡ true → get_or form k 0 ≡ 48 → digit (get_or xs k 0) ≡ true
@@ -24,17 +25,13 @@ digit_at (f ∷ fs) (x ∷ xs) zero e z =
     sym (cond-true (eqb f 48) (digit x) (eqb x f) (eq-eqb f 48 z)) ∙ (and_parts (fills f x) (fits fs xs) e).0
 digit_at (f ∷ fs) (x ∷ xs) (suc k) e z = digit_at fs xs k (and_parts (fills f x) (fits fs xs) e).1 z
 
--- one octet further
-pub fits_more : (form xs : List ℕ) (k : ℕ) → k < length form → k < length xs
-    → fits (drop k form) (drop k xs) ≡ (fills (get_or form k 0) (get_or xs k 0) && fits (drop (k + 1) form) (drop (k + 1) xs))
+-- a text as long as its form fits it where each octet may stand in its place
+pub fits_by_all : (form xs : List ℕ) → length form ≡ length xs → list_all (λ p. fills p.0 p.1) (zip form xs) ≡ fits form xs
 unfolding fits
-fits_more form xs k a b =
-    ap (λ fs. fits fs (drop k xs)) (drop_more form k 0 a)
-    ∙ ap (fits (get_or form k 0 ∷ drop (k + 1) form)) (drop_more xs k 0 b)
-
-pub fits_all : (form xs : List ℕ) (k : ℕ) → length form ≤ k → length xs ≤ k → fits (drop k form) (drop k xs) ≡ true
-unfolding fits
-fits_all form xs k a b = ap (λ fs. fits fs (drop k xs)) (drop_all k form a) ∙ ap (fits []) (drop_all k xs b)
+fits_by_all [] [] e = refl
+fits_by_all [] (x ∷ xs) e = absurd (omega arith)
+fits_by_all (f ∷ fs) [] e = absurd (omega arith)
+fits_by_all (f ∷ fs) (x ∷ xs) e = ap (λ b. fills f x && b) (fits_by_all fs xs (omega arith))
 
 -- how many digits a form takes
 abbrev pub slots : List ℕ → ℕ

@@ -41,7 +41,7 @@ read_found form t xs m e =
       | inl f ↦ (f, sym (cond-true (fits form xs) (moment_of t) None f) ∙ e)
       | inr f ↦
           let n : None ≡ Some m = sym (cond-false (fits form xs) (moment_of t) None f) ∙ e in
-          absurd (let q : ◌≡◌ {A = ℕ} 0 1 = cc in omega arith)
+          absurd (cc)
     ]
 
 -- what reads as a moment is written for it, where the text has the digits of its time

@@ -5,3 +5,4 @@ pub mod Spelling
 pub mod Inverses
 pub mod Orders
 pub mod Refusals
+pub mod Laws

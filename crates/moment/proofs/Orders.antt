@@ -119,7 +119,7 @@ time-order t u v w =
 -- what was written, of which time
 written-time : (form : List ℕ) (o : Option Time) (xs : List ℕ) → written form 0 o ≡ Some xs
     → (t : Time) × (o ≡ Some t) × (lay form (digits_of t) ≡ xs)
-written-time form None xs e = absurd (let q : ◌≡◌ {A = ℕ} 0 1 = cc in omega arith)
+written-time form None xs e = absurd (cc)
 written-time form (Some t) xs e = (t, refl, cc)
 
 written-order : (form : List ℕ) (m n : ℕ) (xs ys : List ℕ) → slots form ≡ 14

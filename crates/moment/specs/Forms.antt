@@ -1,5 +1,6 @@
 -- Forms: texts in which a 0 stands for any digit, and every other octet for itself.
 use Rattle.std.specs.Prelude.{◌≡◌, ℕ, ◌+◌, ◌-◌, ◌*◌, ◌/◌, ◌%◌, Bool, true, false, cond, ◌&&◌, ◌||◌, List, [], ◌∷◌, codes, ◌==◌, nat_le, nat_lt, slice_index}
+use Rattle.std.specs.List.{list_all}
 
 -- YYMMDDHHMMSSZ
 abbrev pub utc_form : List ℕ
@@ -53,6 +54,15 @@ pair_at xs k = pair (slice_index xs k) (slice_index xs (k + 1))
 -- two digits stand in a text from k on
 abbrev pub TwoDigits : List ℕ → ℕ → Type 0
 TwoDigits xs k = (digit (slice_index xs k) ≡ true) × (digit (slice_index xs (k + 1)) ≡ true)
+
+-- two zeros stand in a form from k on
+abbrev pub two_zeros : List ℕ → ℕ → Bool
+two_zeros form k = slice_index form k == 48 && slice_index form (k + 1) == 48
+
+-- whether a form begins with four zeros, and has two for the month from k on, and for each later part `step` after the one before
+abbrev pub has_places : List ℕ → ℕ → ℕ → Bool
+has_places form k step =
+    list_all (two_zeros form) (0 ∷ 2 ∷ k ∷ (k + step) ∷ (k + 2 * step) ∷ (k + 3 * step) ∷ (k + 4 * step) ∷ [])
 
 -- whether a text comes before another, octet by octet
 abbrev pub before : List ℕ → List ℕ → Bool

@@ -2,6 +2,7 @@
 #![tactic(auto)]
 
 mod forms;
+mod spelled;
 pub mod texts;
 
 pub use crate::texts::{

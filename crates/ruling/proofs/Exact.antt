@@ -50,10 +50,10 @@ module _ (rs : List Says) where
 
   as-valid : (w : Final) (n : ℕ) → answered rs ≡ final w n → same valid w ≡ true → (k : ℕ) × (answered rs ≡ final valid k)
   as-valid valid n e h = (n, e)
-  as-valid (revoked d r) n e h = let z : ◌≡◌ {A = ℕ} 0 1 = cc in absurd (omega arith)
+  as-valid (revoked d r) n e h = absurd (cc)
 
   as-revoked : (d : ℕ) (t : Option ℕ) (w : Final) (n : ℕ) → answered rs ≡ final w n → same (revoked d t) w ≡ true → (r : Option ℕ) × (k : ℕ) × (answered rs ≡ final (revoked d r) k)
-  as-revoked d t valid n e h = let z : ◌≡◌ {A = ℕ} 0 1 = cc in absurd (omega arith)
+  as-revoked d t valid n e h = absurd (cc)
   as-revoked d t (revoked d' r) n e h = let g = eqb-true d d' h in (r, n, cc)
 
 pub valid-exactly : ValidExactly

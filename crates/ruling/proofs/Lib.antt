@@ -1,4 +1,5 @@
 pub mod Scans
+pub mod Earliest
 pub mod Tables
 pub mod Rulings
 pub mod Unique

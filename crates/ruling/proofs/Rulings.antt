@@ -39,13 +39,13 @@ more-further xs ys =
     subst (λ (t : Told). Further (answered xs) t) (sym (heard-append 0 xs ys no_list)) (heard-further (0 + length xs) ys (answered xs))
 
 pub no-rule : (w : Final) → silent ≡ rules w → ⊥
-no-rule w e = let z : ◌≡◌ {A = ℕ} 0 1 = cc in omega arith
+no-rule w e = cc
 
 no-wait : (w : Final) → waits ≡ rules w → ⊥
-no-wait w e = let z : ◌≡◌ {A = ℕ} 0 1 = cc in omega arith
+no-wait w e = cc
 
 pub silent-wait : silent ≡ waits → ⊥
-silent-wait e = let z : ◌≡◌ {A = ℕ} 0 1 = cc in omega arith
+silent-wait e = cc
 
 pub same_refl : (v : Final) → same v v ≡ true
 same_refl valid = refl

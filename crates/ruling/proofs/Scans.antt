@@ -1,12 +1,16 @@
--- A serial cut at its size, and one step and the end of each loop.
-use Rattle.std.proofs.Common.{◌≡◌, ℕ, ◌+◌, ◌<◌, ◌≤◌, min, cond, List, map, length, get_or, take, drop, Option, sym, ap, ◌∙◌, ⊎_elim, arith}
-use Rattle.std.proofs.lemmas.List.{at_drop_more, at_drop_all, take_all}
+-- A serial cut at its size, and rulings heard in a fold.
+use Rattle.std.proofs.Common.{◌≡◌, ℕ, ◌+◌, min, List, [], ◌∷◌, map, length, take, Option, sym, refl, ap, ◌∙◌, ⊎_elim, arith}
+use Rattle.std.specs.Fn.{Called}
+use Rattle.std.specs.Iterator.{Drains}
+use Rattle.std.specs.List.{fold, FoldsTo, enumerate_from}
+use Rattle.std.proofs.lemmas.Fn.{fold_over}
+use Rattle.std.proofs.lemmas.Iterator.{YieldsList}
+use Rattle.std.proofs.lemmas.List.{take_all}
+use Rattle.std.proofs.lemmas.List.Sums.{fold_push}
 use Rattle.std.proofs.lemmas.Bool.{cases_lt}
-use Rattle.std.specs.Str.{bytes_eq}
-use Rattle.ruling.specs.Cases.{Dated, Told, entry_of, serial_of, ruling_of}
-use Rattle.ruling.specs.Rule.{earliest_in, earlier_of}
+use denote.Param.Members.{Mut}
+use Rattle.ruling.specs.Cases.{Told, ruling_of}
 use Rattle.ruling.specs.Answers.{heard, moved}
-use Rattle.ruling.specs.declared.cases.EntryLine.{EntryLine}
 use Rattle.ruling.specs.declared.cases.Ruling.{Ruling}
 
 -- the octets of a line are 20, so that a greater size takes no more
@@ -15,20 +19,23 @@ take-size m n xs h e =
     ⊎_elim (λ lt. ap (λ k. take k xs) (omega arith)) (λ le. take_all m xs (omega arith) ∙ sym (take_all n xs (omega arith)))
     (cases_lt n 20)
 
-pub earliest-more : (s : List ℕ) (found next : Option Dated) (es : List EntryLine) (i : ℕ) (d : EntryLine) → i < length es → next ≡ cond (bytes_eq (serial_of (get_or es i d)) s) (earlier_of found (entry_of (get_or es i d))) found → earliest_in s (map entry_of (drop (i + 1) es)) next ≡ earliest_in s (map entry_of (drop i es)) found
-unfolding earliest_in
-earliest-more s found next es i d h e =
-    ap (earliest_in s (map entry_of (drop (i + 1) es))) e ∙ sym (at_drop_more (λ xs. earliest_in s (map entry_of xs) found) es i d h)
+-- what a chain folds to, as `view` sees it, by what each call gives
+pub folded_by : {S A B F C D : Type 0} {steps : S → Option A → S → Type 0} {v : A → B} {g : Mut F (C × (A × Unit {0})) C} {s : S} {all : List B}
+    → (view : C → D) (h : D → B → D) (f : F) (init r : C)
+    → (xs : List A) × (q : F) × Drains steps s xs × FoldsTo {P = F × C} (λ a x b. Called g a.0 (a.1, (x, tt)) b.1 b.0) (f, init) xs (q, r)
+    → YieldsList steps v s all
+    → ((a : C) (x : A) (b : C) (q : F) → Called g f (a, (x, tt)) b q → (view b ≡ h (view a) (v x)) × (q ≡ f))
+    → view r ≡ fold h (view init) all
+folded_by {S} {A} {B} {F} {C} {D} {steps} {v} {g} {s} {all} view h f init r ran y step =
+    fold_over steps v g (λ ys c. view c ≡ fold h (view init) ys) f
+    (λ ys a x b q e k.
+    let m = step a x b q k in
+    (m.0 ∙ ap (λ d. h d (v x)) e ∙ sym (fold_push h (view init) ys (v x)), m.1))
+    s all init r y.runs refl ran
 
-pub earliest-all : (s : List ℕ) (found : Option Dated) (es : List EntryLine) (i : ℕ) → length es ≤ i → earliest_in s (map entry_of (drop i es)) found ≡ found
-unfolding earliest_in
-earliest-all s found es i h = at_drop_all (λ xs. earliest_in s (map entry_of xs) found) es i h
-
-pub heard-more : (k : ℕ) (a next : Told) (rs : List Ruling) (i : ℕ) (d : Ruling) → i < length rs → next ≡ moved k (ruling_of (get_or rs i d)) a → heard (k + 1) (map ruling_of (drop (i + 1) rs)) next ≡ heard k (map ruling_of (drop i rs)) a
+-- each ruling heard with its list's number
+pub heard_folded : (k : ℕ) (rs : List Ruling) (a : Told)
+    → fold (λ t p. moved p.0 (ruling_of p.1) t) a (enumerate_from k rs) ≡ heard k (map ruling_of rs) a
 unfolding heard
-heard-more k a next rs i d h e =
-    ap (heard (k + 1) (map ruling_of (drop (i + 1) rs))) e ∙ sym (at_drop_more (λ xs. heard k (map ruling_of xs) a) rs i d h)
-
-pub heard_all : (k : ℕ) (a : Told) (rs : List Ruling) (i : ℕ) → length rs ≤ i → heard k (map ruling_of (drop i rs)) a ≡ a
-unfolding heard
-heard_all k a rs i h = at_drop_all (λ xs. heard k (map ruling_of xs) a) rs i h
+heard_folded k [] a = refl
+heard_folded k (r ∷ rs) a = heard_folded (k + 1) rs (moved k (ruling_of r) a)

@@ -37,12 +37,12 @@ fn clash(first: usize, other: usize) -> Answer
     Answer::Contradicted { first, other }
 }
 
-impl Answer {
-    // The number of the answer.
-    pub fn number(self) -> u8
-        ensures { result ≡ answer_number (answer_of self) }
-    {
-        match self {
+// The number of the answer.
+impl From<Answer> for u8 {
+    ghost from_gives = { λ answer number. number ≡ answer_number (answer_of answer) };
+
+    fn from(answer: Answer) -> u8 {
+        match answer {
             Answer::NoList => 0,
             Answer::Waiting => 1,
             Answer::Valid { .. } => 2,
@@ -50,7 +50,9 @@ impl Answer {
             Answer::Contradicted { .. } => 4,
         }
     }
+}
 
+impl Answer {
     // How far along the row the answer is.
     pub fn row(self) -> u8
         ensures { result ≡ row (answer_of self) }
@@ -58,8 +60,7 @@ impl Answer {
         match self {
             Answer::NoList => 0,
             Answer::Waiting => 1,
-            Answer::Valid { .. } => 2,
-            Answer::Revoked { .. } => 2,
+            Answer::Valid { .. } | Answer::Revoked { .. } => 2,
             Answer::Contradicted { .. } => 3,
         }
     }

@@ -6,7 +6,7 @@ ghost use Rattle.ruling.specs.Cases.{serial_of, ruling_of, ruling_number};
 use telling::reason::Reason;
 
 // The moments of a question: when the certificate begins and ends, and the moment that is asked about.
-#[derive(Clone, Copy)]
+#[derive(Clone, Copy, Debug, PartialEq, Eq)]
 pub struct Moments {
     pub not_before: u64,
     pub not_after: u64,
@@ -14,7 +14,7 @@ pub struct Moments {
 }
 
 // A question about the certificate with this serial by the issuer with this number.
-#[derive(Clone, Copy)]
+#[derive(Clone, Copy, Debug, PartialEq, Eq)]
 pub struct Question<'a> {
     pub issuer: u8,
     pub serial: &'a [u8],
@@ -22,14 +22,14 @@ pub struct Question<'a> {
 }
 
 // What a taken list says of itself.
-#[derive(Clone, Copy)]
+#[derive(Clone, Copy, Debug, PartialEq, Eq)]
 pub struct Facts {
     pub issuer: u8,
     pub this_update: u64,
     pub expired: Option<u64>,
 }
 
-// An entry of a list. The serial is the first `size` of the octets.
+// An entry of a list. The serial is the first `size` of the octets: a line of a lent table has a fixed size and no heap.
 #[derive(Clone, Copy)]
 pub struct EntryLine {
     pub serial: [u8; 20],
@@ -38,7 +38,7 @@ pub struct EntryLine {
     pub reason: Option<Reason>,
 }
 
-// When and why a serial was revoked.
+// When and why a serial was revoked. Where it stands with other values, as in `Ruling`, callers name its two parts.
 #[derive(Clone, Copy)]
 pub struct Mark {
     pub date: u64,
@@ -68,12 +68,12 @@ impl EntryLine {
     }
 }
 
-impl Ruling {
-    // The number of the ruling.
-    pub fn number(self) -> u8
-        ensures { result ≡ ruling_number (ruling_of self) }
-    {
-        match self {
+// The number of the ruling.
+impl From<Ruling> for u8 {
+    ghost from_gives = { λ ruling number. number ≡ ruling_number (ruling_of ruling) };
+
+    fn from(ruling: Ruling) -> u8 {
+        match ruling {
             Ruling::Silent => 0,
             Ruling::Waiting => 1,
             Ruling::Valid => 2,

@@ -18,9 +18,8 @@ pub fn answer(rulings: &[Ruling]) -> Answer
     ensures stay { FinalsStay }
     ensures differ { FinalsDifferInKindOrDate }
 {
-    let mut answer = Answer::NoList;
-    for (number, ruling) in rulings.iter().enumerate() {
-        answer = answer.with(number, *ruling);
-    }
-    answer
+    rulings.iter().enumerate().fold(
+        Answer::NoList,
+        |answer, (number, ruling)| answer.with(number, *ruling),
+    )
 }

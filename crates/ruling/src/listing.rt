@@ -1,7 +1,7 @@
 // How one list rules on a question.
 ghost use Rattle.std.specs.Prelude.{◌≡◌, map, Some, None};
 ghost use Rattle.ruling.specs.Cases.{entry_of, asked_of, found_of, ruling_of};
-ghost use Rattle.ruling.specs.Rule.{covers_by, earlier_of, earliest_in, judged, ruled_by};
+ghost use Rattle.ruling.specs.Rule.{covers_by, earliest_in, judged, ruled_by};
 ghost use Rattle.ruling.specs.Table.{Rules, Only};
 
 use crate::cases::*;
@@ -10,38 +10,23 @@ use crate::cases::*;
 pub fn covers(facts: Facts, issuer: u8, moments: Moments) -> bool
     ensures { result ≡ covers_by facts issuer moments }
 {
-    let kept = match facts.expired {
-        Some(expired) => expired <= moments.not_after,
-        None => facts.this_update <= moments.not_after,
-    };
-    facts.issuer == issuer && moments.not_before < facts.this_update && kept
-}
-
-// The earlier of what was found and a later entry of the same serial.
-fn earlier(found: Option<Mark>, entry: &EntryLine) -> Option<Mark>
-    ensures { found_of result ≡ earlier_of (found_of found) (entry_of entry.now) }
-{
-    let next = Mark {
-        date: entry.date,
-        reason: entry.reason,
-    };
-    match found {
-        Some(mark) if mark.date <= next.date => found,
-        _ => Some(next),
-    }
+    facts.issuer == issuer
+        && moments.not_before < facts.this_update
+        && facts.expired.unwrap_or(facts.this_update) <= moments.not_after
 }
 
 // The earliest date of a serial in the entries, with the reason of the first entry of that date.
 fn earliest(entries: &[EntryLine], serial: &[u8]) -> Option<Mark>
     ensures { found_of result ≡ earliest_in serial.now (map entry_of entries.now) None }
 {
-    let mut found = None;
-    for entry in entries {
-        if entry.is_of(serial) {
-            found = earlier(found, entry);
-        }
-    }
-    found
+    entries
+        .iter()
+        .filter(|entry| entry.is_of(serial))
+        .map(|entry| Mark {
+            date: entry.date,
+            reason: entry.reason,
+        })
+        .min_by_key(|mark| mark.date)
 }
 
 // What a list that covers the certificate rules, by the serial's earliest revocation in it.
@@ -49,23 +34,10 @@ fn judge(found: Option<Mark>, control_time: u64, caution: u64, this_update: u64)
     ensures { ruling_of result ≡ judged (found_of found) control_time caution this_update }
 {
     match found {
-        Some(mark) => {
-            if control_time < mark.date {
-                Ruling::Valid
-            } else {
-                Ruling::Revoked {
-                    date: mark.date,
-                    reason: mark.reason,
-                }
-            }
-        }
-        None => {
-            if control_time as u128 + caution as u128 <= this_update as u128 {
-                Ruling::Valid
-            } else {
-                Ruling::Waiting
-            }
-        }
+        Some(Mark { date, .. }) if control_time < date => Ruling::Valid,
+        Some(Mark { date, reason }) => Ruling::Revoked { date, reason },
+        None if control_time as u128 + caution as u128 <= this_update as u128 => Ruling::Valid,
+        None => Ruling::Waiting,
     }
 }
 

@@ -12,7 +12,8 @@ pub trait Verifier {
     ghost meaning: { Self → Meaning };
 
     // Whether a list of that issuer number is genuine: signed by this algorithm, with this thisUpdate, the whole item
-    // of its signed block as a part of the list, and its signature after the first content octet.
+    // of its signed block as a part of the list, and its signature after the first content octet. A caller has these
+    // apart: a struct of them would be taken apart again by each verifier.
     fn genuine(
         &self,
         issuer: u8,

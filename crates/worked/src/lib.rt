@@ -18,46 +18,66 @@ pub struct Worked {
     pub moments: [Option<u64>; 3],
 }
 
-// What a list of the worked cases rules at a moment. It has one entry of the serial, with the date, or none.
-fn ruled(update: u64, expired: Option<u64>, date: Option<u64>, time: u64) -> Ruling
-    ensures { ruling_of result ≡ ruled_at time (listing update expired date) }
-{
-    let facts = Facts {
-        issuer: 0,
-        this_update: update,
-        expired,
-    };
-    let moments = Moments {
-        not_before: 100,
-        not_after: 1000,
-        control_time: time,
-    };
-    let question = Question {
-        issuer: 0,
-        serial: &[7],
-        moments,
-    };
-    match date {
-        Some(date) => {
-            let mut serial = [0; 20];
-            serial[0] = 7;
-            let entry = EntryLine {
-                serial,
-                size: 1,
-                date,
-                reason: None,
-            };
-            rule(facts, &[entry], question, 10)
-        }
-        None => rule(facts, &[], question, 10),
-    }
+// A list of the worked cases: its thisUpdate, its expiredCertsOnCRL, and the date of its one entry of the serial.
+#[derive(Clone, Copy, Debug, PartialEq, Eq)]
+struct Listing {
+    update: u64,
+    expired: Option<u64>,
+    date: Option<u64>,
 }
 
-// The answer over one list.
-fn one(update: u64, expired: Option<u64>, date: Option<u64>, time: u64) -> Answer
-    ensures { answer_of result ≡ answered_at time (listing update expired date ∷ []) }
-{
-    answer(&[ruled(update, expired, date, time)])
+impl Listing {
+    fn new(update: u64, expired: Option<u64>, date: Option<u64>) -> Listing
+        ensures { result ≡ record { update = update; expired = expired; date = date } }
+    {
+        Listing {
+            update,
+            expired,
+            date,
+        }
+    }
+
+    // What it rules at a moment.
+    fn ruled(self, time: u64) -> Ruling
+        ensures { ruling_of result ≡ ruled_at time (listing self.update self.expired self.date) }
+    {
+        let facts = Facts {
+            issuer: 0,
+            this_update: self.update,
+            expired: self.expired,
+        };
+        let moments = Moments {
+            not_before: 100,
+            not_after: 1000,
+            control_time: time,
+        };
+        let question = Question {
+            issuer: 0,
+            serial: &[7],
+            moments,
+        };
+        match self.date {
+            Some(date) => {
+                let mut serial = [0; 20];
+                serial[0] = 7;
+                let entry = EntryLine {
+                    serial,
+                    size: 1,
+                    date,
+                    reason: None,
+                };
+                rule(facts, &[entry], question, 10)
+            }
+            None => rule(facts, &[], question, 10),
+        }
+    }
+
+    // The answer over it alone.
+    fn alone(self, time: u64) -> Answer
+        ensures { answer_of result ≡ answered_at time (listing self.update self.expired self.date ∷ []) }
+    {
+        answer(&[self.ruled(time)])
+    }
 }
 
 // The answer over the list of 200, which does not list the serial, and the list of 300, which dates it 150.
@@ -65,8 +85,8 @@ fn two(time: u64) -> Answer
     ensures { answer_of result ≡ answered_at time (listing 200 None None ∷ listing 300 None (Some 150) ∷ []) }
 {
     answer(&[
-        ruled(200, None, None, time),
-        ruled(300, None, Some(150), time),
+        Listing::new(200, None, None).ruled(time),
+        Listing::new(300, None, Some(150)).ruled(time),
     ])
 }
 
@@ -77,15 +97,15 @@ pub fn worked_cases() -> Worked
     ensures moments { result.moments ≡ due_moments cases }
 {
     let answers = [
-        one(100, None, None, 150),
-        one(101, None, None, 92),
-        one(1000, None, Some(500), 500),
-        one(1001, Some(1000), None, 100),
-        one(1001, Some(1001), None, 100),
+        Listing::new(100, None, None).alone(150),
+        Listing::new(101, None, None).alone(92),
+        Listing::new(1000, None, Some(500)).alone(500),
+        Listing::new(1001, Some(1000), None).alone(100),
+        Listing::new(1001, Some(1001), None).alone(100),
         two(149),
-        one(101, None, None, 91),
-        one(1000, None, Some(500), 499),
-        one(1001, None, None, 100),
+        Listing::new(101, None, None).alone(91),
+        Listing::new(1000, None, Some(500)).alone(499),
+        Listing::new(1001, None, None).alone(100),
         two(150),
     ];
     let moments = [

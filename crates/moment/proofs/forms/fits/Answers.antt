@@ -1,30 +1,17 @@
-use Rattle.std.proofs.Common.{◌+◌, ◌&&◌, drop, sym, ap, ◌∙◌, arith}
-use Rattle.moment.specs.Forms.{fits}
-use Rattle.moment.proofs.Fitting.{longer-fits-not, fits_more, fits_all}
+use Rattle.std.proofs.Common.{rules, tests, ◌∙◌}
+use Rattle.std.proofs.lemmas.Iterator.{YieldsList-from_slice, YieldsList-from_zip}
+use Rattle.std.proofs.lemmas.Iterator.Search.{all_from_yields_List}
+use Rattle.moment.specs.Forms.{fills}
+use Rattle.moment.proofs.Fitting.{longer_fits_not, fits_by_all}
 use Rattle.moment.proofs.forms.fits.Goals as goal
 
-pub returns-then-text-form : goal.returns-then-text-form
-returns-then-text-form c = longer-fits-not c.args.form.now c.args.text.now (λ e. omega arith)
+pub returns-then-form-text : goal.returns-then-form-text
+returns-then-form-text c =
+    let form = c.args.form.now in
+    let text = c.args.text.now in
+    all_from_yields_List (λ p. fills p.0 p.1) c.all.new.self _ c.all.result c.all.ensures.ran
+    (YieldsList-from_zip (YieldsList-from_slice form (cc)) (YieldsList-from_slice text (cc))) (λ x b q k. search (rules, tests))
+    ∙ fits_by_all form text c.if-form-text.true
 
-pub returns-then-not-fills : goal.returns-then-not-fills
-returns-then-not-fills c =
-    let fs = c.args.form.now in
-    let xs = c.args.text.now in
-    let k = c.loop-k.k in
-    let rest = fits (drop (k + 1) fs) (drop (k + 1) xs) in
-    let more = fits_more fs xs k c.loop-k-test.true (omega arith) in
-    sym (c.loop-k.invariant ∙ more ∙ ap (λ b. b && rest) (sym c.if-not-fills.ensures))
-
-pub loop-k-preserved : goal.loop-k-preserved
-loop-k-preserved c =
-    let fs = c.args.form.now in
-    let xs = c.args.text.now in
-    let k = c.loop-k.k in
-    let rest = fits (drop (k + 1) fs) (drop (k + 1) xs) in
-    let more = fits_more fs xs k c.loop-k-test.true (omega arith) in
-    c.loop-k.invariant ∙ more ∙ ap (λ b. b && rest) (sym c.if-not-fills.ensures)
-
-pub returns : goal.returns
-returns c =
-    let all = fits_all c.args.form.now c.args.text.now c.loop-k.k c.loop-k-test.false (omega arith) in
-    sym (c.loop-k.invariant ∙ all)
+pub returns-else-form-text : goal.returns-else-form-text
+returns-else-form-text c = longer_fits_not c.args.form.now c.args.text.now c.if-form-text.false
