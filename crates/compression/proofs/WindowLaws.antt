@@ -94,7 +94,7 @@ leads-on s t u k j p q = record {
 -- four rounds, and four words more
 pub leads-four : (s : Window) (x u k : List ℕ) → length s.w0 ≡ 4 → length s.w1 ≡ 4 → length s.w2 ≡ 4 → length s.w3 ≡ 4 → length x ≡ 4 → length k ≡ 4
     → schedule 4 (words_in s) ≡ s.w0 ++ (s.w1 ++ (s.w2 ++ (s.w3 ++ x))) → u ≡ rounds k s.w0 s.v
-    → Leads s (record { w0 = s.w1; w1 = s.w2; w2 = s.w3; w3 = x; v = u }) k
+    → Leads s (record { v = u; w0 = s.w1; w1 = s.w2; w2 = s.w3; w3 = x }) k
 leads-four s x u k l0 l1 l2 l3 lx lk es eu =
     let W : List ℕ = s.w1 ++ (s.w2 ++ (s.w3 ++ x)) in
     let lW : length (s.w1 ++ (s.w2 ++ (s.w3 ++ x))) ≡ 16 = simp length-append (omega arith) in

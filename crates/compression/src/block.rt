@@ -14,11 +14,11 @@ use std::simd::prelude::*;
 // Sixteen words of the schedule, and the working variables before the rounds of those words.
 #[derive(Clone, Copy)]
 struct Window {
+    v: [u32; 8],
     w0: u32x4,
     w1: u32x4,
     w2: u32x4,
     w3: u32x4,
-    v: [u32; 8],
 }
 
 // The words of a block, and the state as the working variables.
@@ -28,11 +28,11 @@ fn start(h: [u32; 8], block: &[u8; 64]) -> Window
 {
     let (fours, _) = block.as_chunks::<16>();
     Window {
+        v: h,
         w0: four_words(&fours[0]),
         w1: four_words(&fours[1]),
         w2: four_words(&fours[2]),
         w3: four_words(&fours[3]),
-        v: h,
     }
 }
 
@@ -41,20 +41,19 @@ fn four(s: Window, k: &[u32; 4]) -> Window
     ensures { Leads s result k.now }
 {
     Window {
+        v: four_rounds(k, s.w0, s.v),
         w0: s.w1,
         w1: s.w2,
         w2: s.w3,
         w3: next_four(s.w0, s.w1, s.w2, s.w3),
-        v: four_rounds(k, s.w0, s.v),
     }
 }
 
 // Sixteen rounds, and the window sixteen words on.
-fn sixteen(s: Window, k: &[u32; 16]) -> Window
+fn sixteen(mut s: Window, k: &[u32; 16]) -> Window
     ensures { Leads s result k.now }
 {
     let (fours, _) = k.as_chunks::<4>();
-    let mut s = s;
     for k in fours {
         s = four(s, k);
     }

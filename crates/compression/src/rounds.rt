@@ -22,10 +22,9 @@ fn round_at(kw: u32, v: [u32; 8]) -> [u32; 8]
 }
 
 // Four rounds, at their constants and words.
-pub(crate) fn four_rounds(k: &[u32; 4], w: u32x4, v: [u32; 8]) -> [u32; 8]
+pub(crate) fn four_rounds(k: &[u32; 4], w: u32x4, mut v: [u32; 8]) -> [u32; 8]
     ensures { result ≡ rounds k.now w v }
 {
-    let mut v = v;
     for kw in (u32x4::from_array(*k) + w).to_array() {
         let next = round_at(kw, v);
         v = next;
