@@ -5,7 +5,14 @@ use lib.Lanes.{zip2}
 use Rattle.compression.specs.Words.{plus, rotr, shr, σ0, σ1}
 use Rattle.compression.specs.Block.{next_of, schedule}
 use Rattle.compression.proofs.BlockLaws.{schedule-none, schedule-step}
-use Rattle.compression.proofs.Spell.{spell4, spelled4}
+use Rattle.std.proofs.lemmas.List.FromFn.{fill_by_all}
+
+-- four lanes, written out
+abbrev spell4 : List ℕ → List ℕ
+spell4 xs = get_or xs 0 0 ∷ get_or xs 1 0 ∷ get_or xs 2 0 ∷ get_or xs 3 0 ∷ []
+
+spelled4 : (xs : List ℕ) → length xs ≡ 4 → xs ≡ spell4 xs
+spelled4 xs e = fill_by_all (λ k. get_or xs k 0) xs 4 0 e (λ k h. refl)
 
 -- a lane is shifted to the right or left, within 32 bits
 abbrev right : ℕ → ℕ → ℕ

@@ -1,5 +1,5 @@
--- Windows of sixteen words: the words of a block in parts, and rounds that lead from one window to another.
-use Rattle.std.proofs.Common.{◌≡◌, ℕ, zero, suc, ◌+◌, ◌*◌, ◌<◌, List, [], ◌∷◌, ◌++◌, map, length, get_or, take, drop, sym, ap, ◌∙◌, append_assoc, zero-add, arith, length-append, length-drop}
+-- The words of a block in chunks, and rounds in fours, each with the window of sixteen words that follows.
+use Rattle.std.proofs.Common.{◌≡◌, ℕ, zero, suc, ◌+◌, ◌*◌, ◌<◌, List, [], ◌∷◌, ◌++◌, map, length, get_or, take, drop, sym, ap, ◌∙◌, arith, length-append, length-drop}
 use Rattle.std.specs.List.{flat_map, range_with_len}
 use Rattle.std.specs.Simd.{first_chunks}
 use Rattle.std.proofs.lemmas.List.{get_or-take, get_or-drop, drop-drop, take-append-drop, take_all, length-take-le}
@@ -77,21 +77,7 @@ rounds-fours k a b c d v lk la lb lc =
     ∙ sym (rounds-append (take 4 k) k1 a (b ++ (c ++ d)) v e0)
     ∙ ap (λ (x : List ℕ). rounds x (a ++ (b ++ (c ++ d))) v) (take-append-drop 4 k)
 
--- ---- rounds that lead from one window to another
-
-pub leads-none : (s : Window) → length (words_in s) ≡ 16 → Leads s s []
-leads-none s e = record { long = e; left = λ n ks. ap (λ (m : ℕ). rounds ks (schedule m (words_in s)) s.v) (sym (zero-add n)) }
-
-pub leads-on : (s t u : Window) (k j : List ℕ) → Leads s t k → Leads t u j → Leads s u (k ++ j)
-leads-on s t u k j p q = record {
-  long = q.long;
-  left = λ n ks.
-      q.left n ks ∙ p.left (length j + n) (j ++ ks)
-      ∙ ap (λ (l : List ℕ). rounds l (schedule (length k + (length j + n)) (words_in s)) s.v) (sym (append_assoc k j ks))
-      ∙ ap (λ (m : ℕ). rounds ((k ++ j) ++ ks) (schedule m (words_in s)) s.v) (let e : length k + (length j + n) ≡ length (k ++ j) + n = omega (arith, length-append k j) in e);
-}
-
--- four rounds, and four words more
+-- ---- four rounds lead to the window four words on
 pub leads-four : (s : Window) (x u k : List ℕ) → length s.w0 ≡ 4 → length s.w1 ≡ 4 → length s.w2 ≡ 4 → length s.w3 ≡ 4 → length x ≡ 4 → length k ≡ 4
     → schedule 4 (words_in s) ≡ s.w0 ++ (s.w1 ++ (s.w2 ++ (s.w3 ++ x))) → u ≡ rounds k s.w0 s.v
     → Leads s (record { v = u; w0 = s.w1; w1 = s.w2; w2 = s.w3; w3 = x }) k

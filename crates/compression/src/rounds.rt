@@ -7,7 +7,7 @@ use std::simd::prelude::*;
 
 // A round, at the sum of its constant and its word. The sums that are known last are added last,
 // which is what makes it fast.
-fn round_at(kw: u32, v: [u32; 8]) -> [u32; 8]
+fn round_at(v: [u32; 8], kw: u32) -> [u32; 8]
     ensures { result ≡ round_at 0 kw v }
 {
     let [a, b, c, d, e, f, g, h] = v;
@@ -22,12 +22,10 @@ fn round_at(kw: u32, v: [u32; 8]) -> [u32; 8]
 }
 
 // Four rounds, at their constants and words.
-pub(crate) fn four_rounds(k: &[u32; 4], w: u32x4, mut v: [u32; 8]) -> [u32; 8]
+pub(crate) fn four_rounds(k: &[u32; 4], w: u32x4, v: [u32; 8]) -> [u32; 8]
     ensures { result ≡ rounds k.now w v }
 {
-    for kw in (u32x4::from_array(*k) + w).to_array() {
-        let next = round_at(kw, v);
-        v = next;
-    }
-    v
+    let sums = (u32x4::from_array(*k) + w).to_array();
+    // By `into_iter` it is a loop that is not unrolled: 160 MB/s for 248.
+    sums.iter().copied().fold(v, round_at)
 }
