@@ -29,8 +29,8 @@ and-xor-up (suc k) x y z h =
     ∙ sym (xor_mod (bit_and x y) (bit_and x z) 1 ∙ ap (λ (n : ℕ). bit_xor n (bit_and x z % 2)) (and_mod x y 1) ∙ ap (bit_xor (bit_and (x % 2) (y % 2))) (and_mod x z 1)))
 
 -- `z ^ (x & (y ^ z))` is the standard's Ch
-pub choose-law : (x y z : ℕ) → x < 2 ^ 32 → z < 2 ^ 32 → bit_xor z (bit_and x (bit_xor y z)) ≡ bit_xor (bit_and x y) (bit_and (turned x) z)
-choose-law x y z hx hz =
+pub choose_law : (x y z : ℕ) → x < 2 ^ 32 → z < 2 ^ 32 → bit_xor z (bit_and x (bit_xor y z)) ≡ bit_xor (bit_and x y) (bit_and (turned x) z)
+choose_law x y z hx hz =
     let whole : bit_and z 0xffff_ffff ≡ z = and_mask z 32 ∙ (let e : z % 2 ^ 32 ≡ z = omega arith in e) in
     let turn : bit_and (turned x) z ≡ bit_xor (bit_and x z) z =
     and_comm (turned x) z ∙ and-xor-up 32 z x 0xffff_ffff hz ∙ ap (bit_xor (bit_and z x)) whole ∙ ap (λ (n : ℕ). bit_xor n z) (and_comm z x) in

@@ -4,6 +4,7 @@ ghost use Rattle.std.specs.Int.{w32, rotate_right};
 ghost use Rattle.compression.specs.Words.{ch, maj};
 
 // The standard's Ch, with one operation less: where x has a bit, that of y, else that of z.
+#[tactic(auto, using(crate::proofs::WordLaws::choose_law), unfolding(crate::specs::Words::ch))]
 pub(crate) fn choose(x: u32, y: u32, z: u32) -> u32
     ensures { result ≡ ch x y z }
 {
