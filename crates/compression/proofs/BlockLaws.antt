@@ -1,15 +1,25 @@
 -- The message schedule and the rounds, a step at a time and in parts.
 use Rattle.std.proofs.Common.{◌≡◌, ℕ, zero, suc, ◌+◌, ◌-◌, ◌≤◌, List, [], ◌∷◌, ◌++◌, length, get_or, sym, refl, ap, ◌∙◌, append_assoc, suc-add, zero-add, arith, length-append}
 use Rattle.std.proofs.lemmas.List.{get_or-append_right}
+use lib.Lanes.{zip2}
+use Rattle.std.specs.List.{fold}
+use Rattle.compression.specs.Words.{plus, ch, Σ1}
 use Rattle.compression.specs.Block.{next_word, schedule, round, rounds}
 
-pub rounds-none : (v : List ℕ) → v ≡ rounds [] [] v
-unfolding rounds
-rounds-none v = refl
+-- a round takes the sum of its constant and its word alone
+one-sum : (x k w : ℕ) → plus (plus x k) w ≡ plus (plus x 0) (plus k w)
+one-sum x k w = omega arith
 
-pub rounds-step : (k w : ℕ) (ks ws v x r : List ℕ) → x ≡ round k w v → r ≡ rounds ks ws x → r ≡ rounds (k ∷ ks) (w ∷ ws) v
+round-sum : (k w : ℕ) (v : List ℕ) → round k w v ≡ round 0 (plus k w) v
+unfolding round
+round-sum k w v =
+    let e = one-sum (plus (plus (get_or v 7 0) (Σ1 (get_or v 4 0))) (ch (get_or v 4 0) (get_or v 5 0) (get_or v 6 0))) k w in cc
+
+pub rounds-fold : (ks ws v : List ℕ) → rounds ks ws v ≡ fold (λ (u : List ℕ) (x : ℕ). round 0 x u) v (zip2 plus ks ws)
 unfolding rounds
-rounds-step k w ks ws v x r e f = f ∙ ap (rounds ks ws) e
+rounds-fold [] ws v = refl
+rounds-fold (k ∷ ks) [] v = refl
+rounds-fold (k ∷ ks) (w ∷ ws) v = rounds-fold ks ws (round k w v) ∙ ap (λ (u : List ℕ). fold (λ (s : List ℕ) (x : ℕ). round 0 x s) u (zip2 plus ks ws)) (round-sum k w v)
 
 pub rounds-append : (ks js ws xs v : List ℕ) → length ks ≡ length ws → rounds (ks ++ js) (ws ++ xs) v ≡ rounds js xs (rounds ks ws v)
 unfolding rounds
@@ -52,10 +62,3 @@ schedule-append zero p q h = refl
 schedule-append (suc n) p q h =
     ap (λ (y : ℕ). schedule n ((p ++ q) ++ y ∷ [])) (next_word-append p q h) ∙ ap (schedule n) (append_assoc p q (next_word q ∷ []))
     ∙ schedule-append n p (q ++ next_word q ∷ []) (omega (arith, length-append q (next_word q ∷ [])))
-
-pub rounds-four-parts : (k0 k1 k2 k3 a b c d v : List ℕ) → length k0 ≡ length a → length k1 ≡ length b → length k2 ≡ length c
-    → rounds (k0 ++ (k1 ++ (k2 ++ k3))) (a ++ (b ++ (c ++ d))) v ≡ rounds k3 d (rounds k2 c (rounds k1 b (rounds k0 a v)))
-rounds-four-parts k0 k1 k2 k3 a b c d v ea eb ec =
-    rounds-append k0 (k1 ++ (k2 ++ k3)) a (b ++ (c ++ d)) v ea
-    ∙ rounds-append k1 (k2 ++ k3) b (c ++ d) (rounds k0 a v) eb
-    ∙ rounds-append k2 k3 c d (rounds k1 b (rounds k0 a v)) ec

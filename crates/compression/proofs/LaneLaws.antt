@@ -1,11 +1,18 @@
 -- Vectors of four words, lane by lane: the small sigmas, a sum, and the next four words of the schedule.
-use Rattle.std.proofs.Common.{◌≡◌, ℕ, ◌-◌, ◌*◌, ◌/◌, ◌%◌, ◌^◌, List, [], ◌∷◌, ◌++◌, map, length, get_or, take, drop, sym, refl, ap, ◌∙◌, subst, ap₂, arith}
+use Rattle.std.proofs.Common.{◌≡◌, ℕ, ◌-◌, ◌*◌, ◌/◌, ◌%◌, ◌^◌, List, [], ◌∷◌, ◌++◌, map, length, get_or, sym, refl, ap, ◌∙◌, subst, ap₂, arith}
 use lib.Bits.{bit_or, bit_xor}
 use lib.Lanes.{zip2}
 use Rattle.compression.specs.Words.{plus, rotr, shr, σ0, σ1}
 use Rattle.compression.specs.Block.{next_of, schedule}
 use Rattle.compression.proofs.BlockLaws.{schedule-none, schedule-step}
-use Rattle.compression.proofs.Spell.{spell4, spelled4}
+use Rattle.std.proofs.lemmas.List.FromFn.{fill_by_all}
+
+-- four lanes, written out
+abbrev spell4 : List ℕ → List ℕ
+spell4 xs = get_or xs 0 0 ∷ get_or xs 1 0 ∷ get_or xs 2 0 ∷ get_or xs 3 0 ∷ []
+
+spelled4 : (xs : List ℕ) → length xs ≡ 4 → xs ≡ spell4 xs
+spelled4 xs e = fill_by_all (λ k. get_or xs k 0) xs 4 0 e (λ k h. refl)
 
 -- a lane is shifted to the right or left, within 32 bits
 abbrev right : ℕ → ℕ → ℕ
@@ -17,23 +24,18 @@ left a b = (a * 2 ^ b) % 2 ^ 32
 abbrev four : ℕ → List ℕ
 four n = n ∷ n ∷ n ∷ n ∷ []
 
--- two rotations and a shift of each lane
-pub small-each : (p q n : ℕ) (x : List ℕ) → length x ≡ 4
-    → zip2 bit_xor
-    (zip2 bit_xor (zip2 bit_or (zip2 right x (four p)) (zip2 left x (four (32 - p)))) (zip2 bit_or (zip2 right x (four q)) (zip2 left x (four (32 - q)))))
-    (zip2 right x (four n))
-    ≡ map (λ (y : ℕ). bit_xor (bit_xor (rotr p y) (rotr q y)) (shr n y)) x
-small-each p q n [] e = absurd (omega arith)
-small-each p q n (a ∷ []) e = absurd (omega arith)
-small-each p q n (a ∷ b ∷ []) e = absurd (omega arith)
-small-each p q n (a ∷ b ∷ c ∷ []) e = absurd (omega arith)
-small-each p q n (a ∷ b ∷ c ∷ d ∷ []) e = refl
-small-each p q n (a ∷ b ∷ c ∷ d ∷ f ∷ g) e = absurd (omega arith)
+pub rotate-each : (n : ℕ) (x : List ℕ) → length x ≡ 4
+    → zip2 bit_or (zip2 right x (four n)) (zip2 left x (four (32 - n))) ≡ map (rotr n) x
+rotate-each n x e = ap (λ (t : List ℕ). zip2 bit_or (zip2 right t (four n)) (zip2 left t (four (32 - n)))) (spelled4 x e) ∙ ap (map (rotr n)) (sym (spelled4 x e))
 
-pub lanes4 : (ks ws : List ℕ) → length ks ≡ 4 → length ws ≡ 4
-    → zip2 plus (take 4 (drop 0 ks)) ws
-    ≡ plus (get_or ks 0 0) (get_or ws 0 0) ∷ plus (get_or ks 1 0) (get_or ws 1 0) ∷ plus (get_or ks 2 0) (get_or ws 2 0) ∷ plus (get_or ks 3 0) (get_or ws 3 0) ∷ []
-lanes4 ks ws lk lw = ap₂ (λ (a b : List ℕ). zip2 plus (take 4 a) b) (spelled4 ks lk) (spelled4 ws lw)
+-- two rotations and a shift of each lane
+pub small-each : (p q n : ℕ) (x a b : List ℕ) → length x ≡ 4 → a ≡ map (rotr p) x → b ≡ map (rotr q) x
+    → zip2 bit_xor (zip2 bit_xor a b) (zip2 right x (four n)) ≡ map (λ (y : ℕ). bit_xor (bit_xor (rotr p y) (rotr q y)) (shr n y)) x
+small-each p q n x a b e ea eb =
+    let same : zip2 bit_xor (zip2 bit_xor (map (rotr p) x) (map (rotr q) x)) (zip2 right x (four n)) ≡ map (λ (y : ℕ). bit_xor (bit_xor (rotr p y) (rotr q y)) (shr n y)) x =
+    ap (λ (t : List ℕ). zip2 bit_xor (zip2 bit_xor (map (rotr p) t) (map (rotr q) t)) (zip2 right t (four n))) (spelled4 x e)
+    ∙ ap (map (λ (y : ℕ). bit_xor (bit_xor (rotr p y) (rotr q y)) (shr n y))) (sym (spelled4 x e)) in
+    ap₂ (λ (s t : List ℕ). zip2 bit_xor (zip2 bit_xor s t) (zip2 right x (four n))) ea eb ∙ same
 
 -- ---- the next four words
 

@@ -1,5 +1,4 @@
 -- What the compression function's proofs share.
-mod Spell
 mod WordLaws
 mod BlockLaws
 mod LaneLaws

@@ -1,51 +1,94 @@
--- Windows of sixteen words: in fours, the next window, and the rounds that are left after one.
-use Rattle.std.proofs.Common.{◌≡◌, ℕ, ◌+◌, ◌-◌, ◌*◌, ◌<◌, ◌≤◌, List, ◌++◌, length, take, drop, sym, refl, ap, ◌∙◌, subst, ap₂, append_assoc, arith, length-append, length-drop}
-use Rattle.std.proofs.lemmas.List.{take-append-drop, drop-drop, length-take-le}
-use Rattle.compression.specs.Constants.{constants}
-use Rattle.compression.specs.Block.{schedule, rounds}
+-- The words of a block in chunks, and rounds in fours, each with the window of sixteen words that follows.
+use Rattle.std.proofs.Common.{◌≡◌, ℕ, zero, suc, ◌+◌, ◌*◌, ◌<◌, List, [], ◌∷◌, ◌++◌, map, length, get_or, take, drop, sym, ap, ◌∙◌, arith, length-append, length-drop}
+use Rattle.std.specs.List.{flat_map, range_with_len}
+use Rattle.std.specs.Simd.{first_chunks}
+use Rattle.std.proofs.lemmas.List.{get_or-take, get_or-drop, drop-drop, take-append-drop, take_all, length-take-le}
+use Rattle.std.proofs.Math.Seq.{take-add}
+use Rattle.compression.specs.Block.{word_of, word_at, words, schedule, rounds}
+use Rattle.compression.specs.Windows.{words_in, Leads}
+use Rattle.compression.specs.declared.block.Window.{Window}
 use Rattle.compression.proofs.BlockLaws.{schedule-add, schedule-append, rounds-append}
-use Rattle.compression.proofs.Spell.{spelled16}
 
-pub length-window : (a b c d : List ℕ) → length a ≡ 4 → length b ≡ 4 → length c ≡ 4 → length d ≡ 4 → length (a ++ (b ++ (c ++ d))) ≡ 16
-length-window a b c d la lb lc ld = simp length-append (omega arith)
+word_of-same : {a b c d w x y z : ℕ} → a ≡ w → b ≡ x → c ≡ y → d ≡ z → word_of a b c d ≡ word_of w x y z
+word_of-same p q r s = cc
 
-pub in-fours : (k : List ℕ) → length k ≡ 16 → k ≡ take 4 (drop 0 k) ++ (take 4 (drop 4 k) ++ (take 4 (drop 8 k) ++ take 4 (drop 12 k)))
-in-fours k e =
-    let P : List ℕ → Type 0 = λ x. x ≡ take 4 (drop 0 x) ++ (take 4 (drop 4 x) ++ (take 4 (drop 8 x) ++ take 4 (drop 12 x))) in
-    subst P (sym (spelled16 k e)) refl
+pub same4 : {a b c d w x y z : ℕ} → a ≡ w → b ≡ x → c ≡ y → d ≡ z → a ∷ b ∷ c ∷ d ∷ [] ≡ w ∷ x ∷ y ∷ z ∷ []
+same4 p q r s = cc
 
--- four times four words more are sixteen more
-pub schedule-sixteen : (a b c d x y z t : List ℕ)
-    → length a ≡ 4 → length b ≡ 4 → length c ≡ 4 → length d ≡ 4 → length x ≡ 4 → length y ≡ 4 → length z ≡ 4
-    → schedule 4 (a ++ (b ++ (c ++ d))) ≡ a ++ (b ++ (c ++ (d ++ x)))
-    → schedule 4 (b ++ (c ++ (d ++ x))) ≡ b ++ (c ++ (d ++ (x ++ y)))
-    → schedule 4 (c ++ (d ++ (x ++ y))) ≡ c ++ (d ++ (x ++ (y ++ z)))
-    → schedule 4 (d ++ (x ++ (y ++ z))) ≡ d ++ (x ++ (y ++ (z ++ t)))
-    → schedule 16 (a ++ (b ++ (c ++ d))) ≡ (a ++ (b ++ (c ++ d))) ++ (x ++ (y ++ (z ++ t)))
-schedule-sixteen a b c d x y z t la lb lc ld lx ly lz e1 e2 e3 e4 =
-    let B : List ℕ = b ++ (c ++ (d ++ x)) in
-    let C : List ℕ = c ++ (d ++ (x ++ y)) in
-    let D : List ℕ = d ++ (x ++ (y ++ z)) in
-    let lB : 16 ≤ length (b ++ (c ++ (d ++ x))) = simp length-append (omega arith) in
-    let lC : 16 ≤ length (c ++ (d ++ (x ++ y))) = simp length-append (omega arith) in
-    let lD : 16 ≤ length (d ++ (x ++ (y ++ z))) = simp length-append (omega arith) in
-    schedule-add 4 12 (a ++ (b ++ (c ++ d))) ∙ ap (schedule 12) e1 ∙ schedule-append 12 a B lB
-    ∙ ap (λ (s : List ℕ). a ++ s) (schedule-add 4 8 B ∙ ap (schedule 8) e2 ∙ schedule-append 8 b C lC
-    ∙ ap (λ (s : List ℕ). b ++ s) (schedule-add 4 4 C ∙ ap (schedule 4) e3 ∙ schedule-append 4 c D lD ∙ ap (λ (s : List ℕ). c ++ s) e4))
-    ∙ sym (simp append_assoc)
+-- the word t of a part of a block that begins at the word i
+pub word_at-part : (b : List ℕ) (n i t : ℕ) → t < n → word_at (take (4 * n) (drop (4 * i) b)) t ≡ word_at b (i + t)
+word_at-part b n i t h =
+    let at : (m k : ℕ) → m < 4 * n → 4 * i + m ≡ k → get_or (take (4 * n) (drop (4 * i) b)) m 0 ≡ get_or b k 0 =
+    λ m k lm e.
+    get_or-take (4 * n) (drop (4 * i) b) m 0 lm ∙ get_or-drop (4 * i) b m 0 ∙ ap (λ (j : ℕ). get_or b j 0) e in
+    word_of-same (at (4 * t) _ (omega arith) (omega arith)) (at (4 * t + 1) _ (omega arith) (omega arith))
+    (at (4 * t + 2) _ (omega arith) (omega arith)) (at (4 * t + 3) _ (omega arith) (omega arith))
 
--- after sixteen rounds, the rounds that are left of the next window lead to what those of this one led to
-pub rounds-left : (j : ℕ) (x y k v u : List ℕ) → j < 3 → length x ≡ 16 → length y ≡ 16 → schedule 16 x ≡ x ++ y
-    → k ≡ take 16 (drop (16 * j) constants) → u ≡ rounds k x v
-    → rounds (drop (16 * (j + 1)) constants) (schedule (48 - 16 * (j + 1)) y) u ≡ rounds (drop (16 * j) constants) (schedule (48 - 16 * j) x) v
-rounds-left j x y k v u h lx ly es ek eu =
-    let n = 48 - 16 * (j + 1) in
-    let c = drop (16 * j) constants in
-    let lk : length k ≡ 16 = ap length ek ∙ length-take-le 16 c (simp length-drop (omega arith)) in
-    let more : c ≡ k ++ drop (16 * (j + 1)) constants =
-    sym (take-append-drop 16 c) ∙ ap₂ (λ (a b : List ℕ). a ++ b) (sym ek)
-    (drop-drop 16 (16 * j) constants ∙ ap (λ (i : ℕ). drop i constants) (let s : 16 * j + 16 ≡ 16 * (j + 1) = omega arith in s)) in
-    let words : schedule (48 - 16 * j) x ≡ x ++ schedule n y =
-    ap (λ (i : ℕ). schedule i x) (let s : 48 - 16 * j ≡ 16 + n = omega arith in s) ∙ schedule-add 16 n x ∙ ap (schedule n) es ∙ schedule-append n x y (omega arith) in
-    sym (ap₂ (λ (a b : List ℕ). rounds a b v) more words ∙ rounds-append k (drop (16 * (j + 1)) constants) x (schedule n y) v (omega arith)
-    ∙ ap (rounds (drop (16 * (j + 1)) constants) (schedule n y)) (sym eu))
+-- ---- lists in chunks
+
+chunk : (n k : ℕ) (xs : List ℕ) (i : ℕ) → i < k → get_or (first_chunks n k xs) i [] ≡ take n (drop (n * i) xs)
+chunk n zero xs i h = absurd (omega arith)
+chunk n (suc k) xs zero h = ap (λ (j : ℕ). take n (drop j xs)) (let e : 0 ≡ n * 0 = omega arith in e)
+chunk n (suc k) xs (suc i) h =
+    chunk n k (drop n xs) i (omega arith)
+    ∙ ap (take n) (drop-drop (n * i) n xs ∙ ap (λ (j : ℕ). drop j xs) (let e : n + n * i ≡ n * suc i = omega arith in e))
+
+-- the word of a chunk of four octets, and the words of one of sixteen
+pub word-of_chunk : (b : List ℕ) (k i : ℕ) → i < k → word_at (get_or (first_chunks 4 k b) i []) 0 ≡ word_at b i
+word-of_chunk b k i h =
+    ap (λ (x : List ℕ). word_at x 0) (chunk 4 k b i h) ∙ word_at-part b 1 i 0 (omega arith) ∙ ap (word_at b) (let e : i + 0 ≡ i = omega arith in e)
+
+pub words-of_chunk : (b : List ℕ) (k i : ℕ) → i < k → words 4 (get_or (first_chunks 16 k b) i []) ≡ map (word_at b) (range_with_len (4 * i) 4)
+unfolding words
+words-of_chunk b k i h =
+    let part : (t s : ℕ) → t < 4 → 4 * i + t ≡ s → word_at (take 16 (drop (16 * i) b)) t ≡ word_at b s =
+    λ t s lt e.
+    ap (λ (j : ℕ). word_at (take 16 (drop j b)) t) (let f : 16 * i ≡ 4 * (4 * i) = omega arith in f)
+    ∙ word_at-part b 4 (4 * i) t lt ∙ ap (word_at b) e in
+    ap (λ (x : List ℕ). map (word_at x) (range_with_len 0 4)) (chunk 16 k b i h)
+    ∙ same4 (part 0 _ (omega arith) (omega arith)) (part 1 _ (omega arith) (omega arith)) (part 2 _ (omega arith) (omega arith)) (part 3 _ (omega arith) (omega arith))
+
+-- the chunks of a list, joined
+pub joined : (n k : ℕ) (xs : List ℕ) → flat_map (λ (x : List ℕ). x) (first_chunks n k xs) ≡ take (k * n) xs
+joined n zero xs = ap (λ (j : ℕ). take j xs) (let e : 0 ≡ 0 * n = omega arith in e)
+joined n (suc k) xs =
+    ap (λ (t : List ℕ). take n xs ++ t) (joined n k (drop n xs)) ∙ sym (take-add n (k * n) xs) ∙ ap (λ (j : ℕ). take j xs) (let e : n + k * n ≡ suc k * n = omega arith in e)
+
+-- ---- rounds in fours
+
+pub rounds-fours : (k a b c d v : List ℕ) → length k ≡ 16 → length a ≡ 4 → length b ≡ 4 → length c ≡ 4
+    → rounds (get_or (first_chunks 4 4 k) 3 []) d (rounds (get_or (first_chunks 4 4 k) 2 []) c (rounds (get_or (first_chunks 4 4 k) 1 []) b (rounds (get_or (first_chunks 4 4 k) 0 []) a v)))
+    ≡ rounds k (a ++ (b ++ (c ++ d))) v
+rounds-fours k a b c d v lk la lb lc =
+    let k1 : List ℕ = drop 4 k in
+    let k2 : List ℕ = drop 4 k1 in
+    let k3 : List ℕ = drop 4 k2 in
+    let l1 : length (drop 4 k) ≡ 12 = simp length-drop (omega arith) in
+    let l2 : length (drop 4 (drop 4 k)) ≡ 8 = simp length-drop (omega arith) in
+    let l3 : length (drop 4 (drop 4 (drop 4 k))) ≡ 4 = simp length-drop (omega arith) in
+    let e0 : length (take 4 k) ≡ length a = length-take-le 4 k (omega arith) ∙ sym la in
+    let e1 : length (take 4 k1) ≡ length b = length-take-le 4 k1 (omega arith) ∙ sym lb in
+    let e2 : length (take 4 k2) ≡ length c = length-take-le 4 k2 (omega arith) ∙ sym lc in
+    ap (λ (x : List ℕ). rounds x d (rounds (take 4 k2) c (rounds (take 4 k1) b (rounds (take 4 k) a v)))) (take_all 4 k3 (omega arith))
+    ∙ sym (rounds-append (take 4 k2) k3 c d _ e2)
+    ∙ ap (λ (x : List ℕ). rounds x (c ++ d) (rounds (take 4 k1) b (rounds (take 4 k) a v))) (take-append-drop 4 k2)
+    ∙ sym (rounds-append (take 4 k1) k2 b (c ++ d) _ e1)
+    ∙ ap (λ (x : List ℕ). rounds x (b ++ (c ++ d)) (rounds (take 4 k) a v)) (take-append-drop 4 k1)
+    ∙ sym (rounds-append (take 4 k) k1 a (b ++ (c ++ d)) v e0)
+    ∙ ap (λ (x : List ℕ). rounds x (a ++ (b ++ (c ++ d))) v) (take-append-drop 4 k)
+
+-- ---- four rounds lead to the window four words on
+pub leads-four : (s : Window) (x u k : List ℕ) → length s.w0 ≡ 4 → length s.w1 ≡ 4 → length s.w2 ≡ 4 → length s.w3 ≡ 4 → length x ≡ 4 → length k ≡ 4
+    → schedule 4 (words_in s) ≡ s.w0 ++ (s.w1 ++ (s.w2 ++ (s.w3 ++ x))) → u ≡ rounds k s.w0 s.v
+    → Leads s (record { v = u; w0 = s.w1; w1 = s.w2; w2 = s.w3; w3 = x }) k
+leads-four s x u k l0 l1 l2 l3 lx lk es eu =
+    let W : List ℕ = s.w1 ++ (s.w2 ++ (s.w3 ++ x)) in
+    let lW : length (s.w1 ++ (s.w2 ++ (s.w3 ++ x))) ≡ 16 = simp length-append (omega arith) in
+    record {
+      long = lW;
+      left = λ n ks.
+          ap (rounds ks (schedule n W)) eu
+          ∙ sym (rounds-append k ks s.w0 (schedule n W) s.v (omega arith))
+          ∙ ap (λ (ws : List ℕ). rounds (k ++ ks) ws s.v)
+          (sym (ap (λ (m : ℕ). schedule (m + n) (words_in s)) lk ∙ schedule-add 4 n (words_in s) ∙ ap (schedule n) es ∙ schedule-append n s.w0 W (omega arith)));
+    }

@@ -29,8 +29,8 @@ and-xor-up (suc k) x y z h =
     ∙ sym (xor_mod (bit_and x y) (bit_and x z) 1 ∙ ap (λ (n : ℕ). bit_xor n (bit_and x z % 2)) (and_mod x y 1) ∙ ap (bit_xor (bit_and (x % 2) (y % 2))) (and_mod x z 1)))
 
 -- `z ^ (x & (y ^ z))` is the standard's Ch
-pub choose-law : (x y z : ℕ) → x < 2 ^ 32 → z < 2 ^ 32 → bit_xor z (bit_and x (bit_xor y z)) ≡ bit_xor (bit_and x y) (bit_and (turned x) z)
-choose-law x y z hx hz =
+pub choose_law : (x y z : ℕ) → x < 2 ^ 32 → z < 2 ^ 32 → bit_xor z (bit_and x (bit_xor y z)) ≡ bit_xor (bit_and x y) (bit_and (turned x) z)
+choose_law x y z hx hz =
     let whole : bit_and z 0xffff_ffff ≡ z = and_mask z 32 ∙ (let e : z % 2 ^ 32 ≡ z = omega arith in e) in
     let turn : bit_and (turned x) z ≡ bit_xor (bit_and x z) z =
     and_comm (turned x) z ∙ and-xor-up 32 z x 0xffff_ffff hz ∙ ap (bit_xor (bit_and z x)) whole ∙ ap (λ (n : ℕ). bit_xor n z) (and_comm z x) in
@@ -38,18 +38,17 @@ choose-law x y z hx hz =
     ∙ ap (bit_xor (bit_and x y)) (sym turn)
 
 -- the sums of a round, with what is known last added last
-first-sum : (h s c k w : ℕ) → plus (plus (plus h (plus k w)) c) s ≡ plus (plus (plus (plus h s) c) k) w
-first-sum h s c k w = omega arith
+first-sum : (h s c kw : ℕ) → plus (plus (plus h kw) c) s ≡ plus (plus (plus (plus h s) c) 0) kw
+first-sum h s c kw = omega arith
 
 second-sum : (t m s : ℕ) → plus (plus t m) s ≡ plus t (plus s m)
 second-sum t m s = omega arith
 
 -- a round, from the sum kw of its constant and its word, and the values of the four functions
-pub round-by-sums : (k w kw a b c d e f g h c-is m-is s0 s1 : ℕ)
-    → kw ≡ plus k w → c-is ≡ ch e f g → m-is ≡ maj a b c → s0 ≡ Σ0 a → s1 ≡ Σ1 e
+pub round-by-sums : (kw a b c d e f g h c-is m-is s0 s1 : ℕ) → c-is ≡ ch e f g → m-is ≡ maj a b c → s0 ≡ Σ0 a → s1 ≡ Σ1 e
     → plus (plus (plus (plus (plus h kw) c-is) s1) m-is) s0 ∷ a ∷ b ∷ c ∷ plus d (plus (plus (plus h kw) c-is) s1) ∷ e ∷ f ∷ g ∷ []
-    ≡ round_of k w a b c d e f g h
-round-by-sums k w kw a b c d e f g h c-is m-is s0 s1 ek ec em e0 e1 =
-    let x = first-sum h s1 c-is k w in
+    ≡ round_of 0 kw a b c d e f g h
+round-by-sums kw a b c d e f g h c-is m-is s0 s1 ec em e0 e1 =
+    let x = first-sum h s1 c-is kw in
     let y = second-sum (plus (plus (plus h kw) c-is) s1) m-is s0 in
     cc

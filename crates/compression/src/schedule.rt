@@ -1,24 +1,26 @@
 // The message schedule, four words at a time.
-ghost use Rattle.std.specs.Prelude.{◌≡◌, ◌++◌, map};
-ghost use Rattle.compression.specs.Words.{σ0, σ1};
+ghost use Rattle.std.specs.Prelude.{◌≡◌, ◌<◌, ◌++◌, map, bit_xor};
+ghost use Rattle.compression.specs.Words.{rotr, shr};
 ghost use Rattle.compression.specs.Block.{schedule};
 
 use std::simd::prelude::*;
 
-fn small0_each(x: u32x4) -> u32x4
-    ensures { result ≡ map σ0 x }
+// Each lane rotated to the right by N places.
+fn rotate_each<const N: u32>(x: u32x4) -> u32x4
+    requires { (0 < N) × (N < 32) }
+    ensures { result ≡ map (rotr N) x }
 {
-    ((x >> u32x4::splat(7)) | (x << u32x4::splat(25)))
-        ^ ((x >> u32x4::splat(18)) | (x << u32x4::splat(14)))
-        ^ (x >> u32x4::splat(3))
+    (x >> u32x4::splat(N)) | (x << u32x4::splat(32 - N))
 }
 
-fn small1_each(x: u32x4) -> u32x4
-    ensures { result ≡ map σ1 x }
+// The standard's σ0 of each lane at 7, 18 and 3, and its σ1 at 17, 19 and 10.
+fn small_sigma_each<const P: u32, const Q: u32, const S: u32>(x: u32x4) -> u32x4
+    requires first { (0 < P) × (P < 32) }
+    requires second { (0 < Q) × (Q < 32) }
+    requires shift { S < 32 }
+    ensures { result ≡ map (λ y. bit_xor (bit_xor (rotr P y) (rotr Q y)) (shr S y)) x }
 {
-    ((x >> u32x4::splat(17)) | (x << u32x4::splat(15)))
-        ^ ((x >> u32x4::splat(19)) | (x << u32x4::splat(13)))
-        ^ (x >> u32x4::splat(10))
+    rotate_each::<P>(x) ^ rotate_each::<Q>(x) ^ (x >> u32x4::splat(S))
 }
 
 // The four words that follow the sixteen of w0 to w3. The last two of them rest on the first two,
@@ -27,7 +29,9 @@ pub(crate) fn next_four(w0: u32x4, w1: u32x4, w2: u32x4, w3: u32x4) -> u32x4
     ensures { schedule 4 (w0 ++ (w1 ++ (w2 ++ w3))) ≡ w0 ++ (w1 ++ (w2 ++ (w3 ++ result))) }
 {
     let zero = u32x4::splat(0);
-    let base = w0 + small0_each(w0.shuffle(w1, [1, 2, 3, 4])) + w2.shuffle(w3, [1, 2, 3, 4]);
-    let some = base + small1_each(w3.shuffle(zero, [2, 3, 4, 5]));
-    some + small1_each(some.shuffle(zero, [4, 5, 0, 1]))
+    let base = w0
+        + small_sigma_each::<7, 18, 3>(w0.shuffle(w1, [1, 2, 3, 4]))
+        + w2.shuffle(w3, [1, 2, 3, 4]);
+    let some = base + small_sigma_each::<17, 19, 10>(w3.shuffle(zero, [2, 3, 4, 5]));
+    some + small_sigma_each::<17, 19, 10>(some.shuffle(zero, [4, 5, 0, 1]))
 }

@@ -1,17 +1,21 @@
 -- The state after blocks that come in parts, the octets of words, and the digest of a message that is finished in two parts.
 use Rattle.std.proofs.Common.{◌≡◌, ℕ, zero, suc, ◌+◌, ◌*◌, ◌/◌, ◌%◌, ◌^◌, ◌<◌, ◌≤◌, List, [], ◌∷◌, ◌++◌, length, get_or, take, drop, sym, refl, ap, ◌∙◌, ap₂, append_assoc, suc-add, zero-add, arith, length-append, length-drop}
-use lib.Lanes.{fold_l}
+use Rattle.std.specs.List.{fold, flat_map}
+use Rattle.std.specs.Int.{w32, to_be_bytes}
 use Rattle.std.specs.Simd.{first_chunks}
-use Rattle.std.proofs.lemmas.List.{take_at, nil_from_length, take-append-le, drop-append-le, take-append-drop, take_more, take_all, length-take-le}
+use Rattle.std.proofs.lemmas.List.{nil_from_length, take-append-le, drop-append-le, take-append-drop, take_all, length-take-le}
 use Rattle.compression.specs.Block.{compress}
 use Rattle.digest.specs.Sha256.{initial, absorbed, padding, octets_of, sha256}
 use Rattle.digest.proofs.PadLaws.{padding-mod}
 
 -- the blocks as `as_chunks` cuts them
-pub absorbed-chunks : (n : ℕ) (h m : List ℕ) → fold_l compress h (first_chunks 64 n m) ≡ absorbed n h m
+pub absorbed-chunks : (n : ℕ) (h m : List ℕ) → fold compress h (first_chunks 64 n m) ≡ absorbed n h m
 unfolding absorbed
 absorbed-chunks zero h m = refl
 absorbed-chunks (suc n) h m = absorbed-chunks n (compress h (take 64 m)) (drop 64 m)
+
+pub blocks-of : (h x y : List ℕ) → x ≡ y → fold compress h (first_chunks 64 (length x / 64) x) ≡ absorbed (length y / 64) h y
+blocks-of h x y e = absorbed-chunks (length x / 64) h x ∙ ap (λ (t : List ℕ). absorbed (length t / 64) h t) e
 
 pub one_block : (h b : List ℕ) → length b ≡ 64 → compress h b ≡ absorbed 1 h b
 unfolding absorbed
@@ -38,30 +42,14 @@ absorbed-front m h =
 
 -- ---- the octets of words
 
-pub octets-none : [] ≡ octets_of []
+pub octets-joined : (ws : List ℕ) (parts : List (List ℕ)) → length parts ≡ length ws
+    → ((i : ℕ) → i < length ws → get_or parts i [] ≡ to_be_bytes w32 (get_or ws i 0)) → flat_map (λ (x : List ℕ). x) parts ≡ octets_of ws
 unfolding octets_of
-octets-none = refl
-
-octets-append : (xs ys : List ℕ) → octets_of (xs ++ ys) ≡ octets_of xs ++ octets_of ys
-unfolding octets_of
-octets-append [] ys = refl
-octets-append (x ∷ xs) ys = ap (λ (t : List ℕ). (x / 16777216 % 256) ∷ (x / 65536 % 256) ∷ (x / 256 % 256) ∷ (x % 256) ∷ t) (octets-append xs ys)
-
-octets-one : (w : ℕ) → (w / 16777216 % 256) ∷ (w / 65536 % 256) ∷ (w / 256 % 256) ∷ (w % 256) ∷ [] ≡ octets_of (w ∷ [])
-unfolding octets_of
-octets-one w = refl
-
-pub octets-more : (v out b r z : List ℕ) (i : ℕ) → i < length v → take (4 * i) out ≡ octets_of (take i v) → 4 * i ≤ length out
-    → b ≡ (get_or v i 0 / 16777216 % 256) ∷ (get_or v i 0 / 65536 % 256) ∷ (get_or v i 0 / 256 % 256) ∷ (get_or v i 0 % 256) ∷ []
-    → r ≡ take (4 * i) out ++ (b ++ z)
-    → take (4 * (i + 1)) r ≡ octets_of (take (i + 1) v)
-octets-more v out b r z i h e long eb er =
-    let front = take (4 * i) out in
-    let lf : length front ≡ 4 * i = length-take-le (4 * i) out long in
-    let lb : length b ≡ 4 = ap length eb in
-    let all : length (front ++ b) ≡ 4 * (i + 1) = length-append front b ∙ (let s : length front + length b ≡ 4 * (i + 1) = omega arith in s) in
-    ap (take (4 * (i + 1))) (er ∙ sym (append_assoc front b z)) ∙ take_at (front ++ b) z (4 * (i + 1)) all
-    ∙ ap₂ (λ (x y : List ℕ). x ++ y) e (eb ∙ octets-one (get_or v i 0)) ∙ sym (octets-append (take i v) (get_or v i 0 ∷ [])) ∙ ap octets_of (sym (take_more v i 0 h))
+octets-joined [] [] e each = refl
+octets-joined [] (p ∷ parts) e each = absurd (omega arith)
+octets-joined (w ∷ ws) [] e each = absurd (omega arith)
+octets-joined (w ∷ ws) (p ∷ parts) e each =
+    ap₂ (λ (a b : List ℕ). a ++ b) (each 0 (omega arith)) (octets-joined ws parts (omega arith) (λ i h. each (suc i) (omega arith)))
 
 -- ---- the digest of p ++ m, where p is whole blocks that led to the state h, and x is what is left of m, with the padding
 

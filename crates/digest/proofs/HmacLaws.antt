@@ -1,25 +1,28 @@
 -- The keyed blocks of HMAC.
-use Rattle.std.proofs.Common.{◌≡◌, ℕ, zero, suc, ◌+◌, ◌-◌, ◌<◌, cond, leb, List, [], ◌∷◌, ◌++◌, map, length, get_or, take, set, replicate, sym, ap, ◌∙◌, ap₂, append_assoc, arith, length-append}
+use Rattle.std.proofs.Common.{◌≡◌, ℕ, zero, suc, ◌+◌, ◌-◌, ◌<◌, cond, leb, List, ◌++◌, map, length, get_or, replicate, sym, ap, subst, ◌∙◌, arith, length-append}
 use lib.Bits.{bit_xor}
-use Rattle.std.proofs.lemmas.List.{set_at, map_more, map-append, length-map, length-take-le, take_all}
+use Rattle.std.proofs.lemmas.Grind.{same_number_lists}
+use denote.Param.Members.{Mut, Called}
+use Rattle.std.specs.Array.{MapsFrom, IsMapOf}
+use Rattle.std.proofs.lemmas.List.{map-append, get_or-map, length-map}
 use Rattle.digest.specs.Sha256.{sha256}
 use Rattle.digest.specs.Hmac.{short, filled, keyed}
 
--- the block once the first i octets of the key are in it
-abbrev pub part : ℕ → List ℕ → ℕ → List ℕ
-part pad key i = map (λ (x : ℕ). bit_xor x pad) (take i key) ++ replicate (64 - i) pad
+-- what an array's `map` gives, where the closure acts as h
+module _ {F : Type 0} (g : Mut F (ℕ × Unit {0}) ℕ) (f : F) (h : ℕ → ℕ) (acts : (x y : ℕ) (q : F) → Called g f (x, tt) y q → (y ≡ h x) × (q ≡ f)) where
+  mapped-from : (xs ys : List ℕ) (i n : ℕ) → MapsFrom g f xs ys i n → (j k : ℕ) → j < n → i + j ≡ k → get_or ys k 0 ≡ h (get_or xs k 0)
+  mapped-from xs ys i zero m j k l e = absurd (omega arith)
+  mapped-from xs ys i (suc n) m zero k l e =
+      let s : k ≡ i = omega arith in
+      ap (λ (a : ℕ). get_or ys a 0) s ∙ m.4.1 0 ∙ (acts m.1 m.2 m.0 m.5).0 ∙ ap h (sym (ap (λ (a : ℕ). get_or xs a 0) s ∙ m.3.1 0))
+  mapped-from xs ys i (suc n) m (suc j) k l e =
+      let same = (acts m.1 m.2 m.0 m.5).1 in
+      mapped-from xs ys (i + 1) n (let P : F → Type 0 = λ s. MapsFrom g s xs ys (i + 1) n in subst P same m.6) j k (omega arith) (omega arith)
 
-pub part-more : (pad : ℕ) (key : List ℕ) (i : ℕ) (b : List ℕ) → length key ≡ 32 → i < 32 → b ≡ part pad key i
-    → set b i (bit_xor (get_or key i 0) pad) ≡ part pad key (i + 1)
-part-more pad key i b lk h e =
-    let f : ℕ → ℕ = λ x. bit_xor x pad in
-    let done : List ℕ = map f (take i key) in
-    let v = bit_xor (get_or key i 0) pad in
-    let long : length done ≡ i = length-map (take i key) f ∙ length-take-le i key (omega arith) in
-    ap (λ (t : List ℕ). set t i v) (e ∙ ap (λ (n : ℕ). done ++ replicate n pad) (let s : 64 - i ≡ suc (63 - i) = omega arith in s))
-    ∙ set_at done pad (replicate (63 - i) pad) v i long
-    ∙ sym (append_assoc done (v ∷ []) (replicate (63 - i) pad))
-    ∙ ap₂ (λ (a : List ℕ) (n : ℕ). a ++ replicate n pad) (sym (map_more f key i 0 (omega arith))) (let s : 63 - i ≡ 64 - (i + 1) = omega arith in s)
+  pub mapped : (xs ys : List ℕ) (n : ℕ) → length xs ≡ n → IsMapOf g f xs ys n → ys ≡ map h xs
+  mapped xs ys n e m =
+      same_number_lists ys (map h xs) (m.long ∙ sym (length-map xs h ∙ e))
+      (λ k l. mapped-from xs ys 0 n m.each k k (omega (arith, m.long)) (omega arith) ∙ sym (get_or-map h xs k 0 0 (omega (arith, m.long))))
 
 -- K0 at a key of 32 octets
 filled-32 : (key : List ℕ) → length key ≡ 32 → filled key ≡ key ++ replicate 32 0
@@ -27,14 +30,11 @@ filled-32 key e =
     let itself : short key ≡ key = ap (λ (n : ℕ). cond (leb n 64) key (sha256 key)) e in
     ap (λ (k : List ℕ). k ++ replicate (64 - length k) 0) itself ∙ ap (λ (n : ℕ). key ++ replicate (64 - n) 0) e
 
-pub part-all : (pad : ℕ) (key : List ℕ) (i : ℕ) → length key ≡ 32 → i ≡ 32 → part pad key i ≡ keyed pad key
+pub keyed-32 : (pad : ℕ) (key : List ℕ) → length key ≡ 32 → map (λ (x : ℕ). bit_xor x pad) key ++ replicate 32 pad ≡ keyed pad key
 unfolding keyed
-part-all pad key i lk e =
+keyed-32 pad key e =
     let f : ℕ → ℕ = λ x. bit_xor x pad in
-    ap (part pad key) e
-    ∙ ap (λ (t : List ℕ). map f t ++ replicate 32 pad) (take_all 32 key (omega arith))
-    ∙ sym (map-append f key (replicate 32 0))
-    ∙ ap (map f) (sym (filled-32 key lk))
+    sym (map-append f key (replicate 32 0)) ∙ ap (map f) (sym (filled-32 key e))
 
 pub length-keyed : (pad : ℕ) (key : List ℕ) → length key ≡ 32 → length (keyed pad key) ≡ 64
 unfolding keyed

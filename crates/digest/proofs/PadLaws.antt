@@ -1,7 +1,7 @@
 -- The end of a message, put together from its last octets, the mark 0x80, zeros and the length.
-use Rattle.std.proofs.Common.{◌≡◌, ℕ, zero, ◌+◌, ◌-◌, ◌*◌, ◌%◌, ◌^◌, ◌≤◌, List, ◌∷◌, ◌++◌, length, take, drop, replicate, sym, refl, ap, ◌∙◌, ap₂, append_assoc, arith, length-append}
+use Rattle.std.proofs.Common.{◌≡◌, ℕ, zero, suc, ◌+◌, ◌-◌, ◌*◌, ◌%◌, ◌^◌, ◌≤◌, List, [], ◌∷◌, ◌++◌, length, take, drop, set, replicate, sym, refl, ap, ◌∙◌, ap₂, append_assoc, append-nil, arith, length-append, length-drop}
 use lib.ListN.{length-replicate}
-use Rattle.std.proofs.lemmas.List.{take_at, drop_at, drop-drop, drop-replicate, replicate-append-replicate}
+use Rattle.std.proofs.lemmas.List.{take_at, drop_all, set_at, drop-replicate, replicate-append-replicate}
 use Rattle.digest.specs.Sha256.{octets8, padding}
 
 same-cons : {x y : ℕ} {xs ys : List ℕ} → x ≡ y → xs ≡ ys → x ∷ xs ≡ y ∷ ys
@@ -21,46 +21,30 @@ padding-mod n =
     (same-cons (omega arith) (same-cons (omega arith) (same-cons (omega arith) (same-cons (omega arith)
     (same-cons (omega arith) (same-cons (omega arith) (same-cons (omega arith) (same-cons (omega arith) refl))))))))
 
--- three writes over 128 zeros: the rest of a message, the mark after it, and the length `bits` up to `end`
-module _ (rest bits : List ℕ) (n end : ℕ) (ln : length rest ≡ n) (lb : length bits ≡ 8) (fits : n + 9 ≤ end) (within : end ≤ 128) where
-  first : take 0 (replicate 128 0) ++ (rest ++ drop (0 + n) (replicate 128 0)) ≡ rest ++ replicate (128 - n) 0
-  first = ap (λ (k : ℕ). rest ++ drop k (replicate 128 0)) (let e : 0 + n ≡ n = omega arith in e) ∙ ap (λ (t : List ℕ). rest ++ t) (drop-replicate n 128 0)
-
-  second : take n (rest ++ replicate (128 - n) 0) ++ (0x80 ∷ drop (n + 1) (rest ++ replicate (128 - n) 0)) ≡ rest ++ (0x80 ∷ replicate (127 - n) 0)
-  second =
-      ap₂ (λ (a b : List ℕ). a ++ (0x80 ∷ b)) (take_at rest (replicate (128 - n) 0) n ln)
-      (sym (drop-drop 1 n (rest ++ replicate (128 - n) 0)) ∙ ap (drop 1) (drop_at rest (replicate (128 - n) 0) n ln) ∙ drop-replicate 1 (128 - n) 0
-      ∙ ap (λ (k : ℕ). replicate k 0) (let e : 128 - n - 1 ≡ 127 - n = omega arith in e))
-
+-- three writes over N zeros: the rest of a message, the mark after it, and the length `bits` up to the end
+module _ (rest bits : List ℕ) (n N : ℕ) (ln : length rest ≡ n) (fits : n + 9 ≤ N) where
   front : List ℕ
-  front = rest ++ (0x80 ∷ replicate (end - 9 - n) 0)
+  front = rest ++ (0x80 ∷ replicate (N - 9 - n) 0)
 
-  front_length : length front ≡ end - 8
+  front_length : length front ≡ N - 8
   unfolding front
-  front_length = omega (arith, length-append rest (0x80 ∷ replicate (end - 9 - n) 0), length-replicate (end - 9 - n) zero)
+  front_length = omega (arith, length-append rest (0x80 ∷ replicate (N - 9 - n) 0), length-replicate (N - 9 - n) zero)
 
-  split : rest ++ (0x80 ∷ replicate (127 - n) 0) ≡ front ++ replicate (136 - end) 0
+  marked : (x : List ℕ) → x ≡ set (rest ++ drop n (replicate N 0)) n 0x80 → x ≡ front ++ replicate 8 0
   unfolding front
-  split =
-      ap (λ (t : List ℕ). rest ++ (0x80 ∷ t))
-      (ap (λ (k : ℕ). replicate k 0) (let e : 127 - n ≡ (end - 9 - n) + (136 - end) = omega arith in e) ∙ sym (replicate-append-replicate (end - 9 - n) (136 - end) 0))
-      ∙ sym (append_assoc rest (0x80 ∷ replicate (end - 9 - n) 0) (replicate (136 - end) 0))
+  marked x e =
+      e
+      ∙ ap (λ (t : List ℕ). set (rest ++ t) n 0x80) (drop-replicate n N 0 ∙ ap (λ (k : ℕ). replicate k 0) (let s : N - n ≡ suc (N - 1 - n) = omega arith in s))
+      ∙ set_at rest 0 (replicate (N - 1 - n) 0) 0x80 n ln
+      ∙ ap (λ (t : List ℕ). rest ++ (0x80 ∷ t))
+      (ap (λ (k : ℕ). replicate k 0) (let s : N - 1 - n ≡ (N - 9 - n) + 8 = omega arith in s) ∙ sym (replicate-append-replicate (N - 9 - n) 8 0))
+      ∙ sym (append_assoc rest (0x80 ∷ replicate (N - 9 - n) 0) (replicate 8 0))
 
-  third : (q : List ℕ) → take end (take (end - 8) (front ++ replicate (136 - end) 0) ++ (bits ++ q)) ≡ front ++ bits
-  third q =
-      ap (λ (t : List ℕ). take end (t ++ (bits ++ q))) (take_at front (replicate (136 - end) 0) (end - 8) front_length)
-      ∙ ap (take end) (sym (append_assoc front bits q))
-      ∙ take_at (front ++ bits) q end (omega (arith, length-append front bits, front_length))
-
-  pub tail-made : (t1 t2 t3 q : List ℕ)
-      → t1 ≡ take 0 (replicate 128 0) ++ (rest ++ drop (0 + n) (replicate 128 0))
-      → t2 ≡ take n t1 ++ (0x80 ∷ drop (n + 1) t1)
-      → t3 ≡ take (end - 8) t2 ++ (bits ++ q)
-      → take end t3 ≡ rest ++ (0x80 ∷ (replicate (end - 9 - n) 0 ++ bits))
+  pub padded-made : (x : List ℕ) → x ≡ set (rest ++ drop n (replicate N 0)) n 0x80
+      → take (N - 8) x ++ (bits ++ drop (length x - (N - 8)) (drop (N - 8) x)) ≡ rest ++ (0x80 ∷ (replicate (N - 9 - n) 0 ++ bits))
   unfolding front
-  tail-made t1 t2 t3 q e1 e2 e3 =
-      let f1 : t1 ≡ rest ++ replicate (128 - n) 0 = e1 ∙ first in
-      let f2 : t2 ≡ front ++ replicate (136 - end) 0 = e2 ∙ ap (λ (t : List ℕ). take n t ++ (0x80 ∷ drop (n + 1) t)) f1 ∙ second ∙ split in
-      let f3 : take end t3 ≡ front ++ bits =
-      ap (take end) e3 ∙ ap (λ (t : List ℕ). take end (take (end - 8) t ++ (bits ++ q))) f2 ∙ third q in
-      f3 ∙ append_assoc rest (0x80 ∷ replicate (end - 9 - n) 0) bits
+  padded-made x e =
+      let none : drop (length x - (N - 8)) (drop (N - 8) x) ≡ [] = drop_all (length x - (N - 8)) (drop (N - 8) x) (omega (arith, length-drop (N - 8) x)) in
+      ap₂ (λ (a b : List ℕ). a ++ (bits ++ b)) (ap (take (N - 8)) (marked x e) ∙ take_at front (replicate 8 0) (N - 8) front_length) none
+      ∙ ap (λ (t : List ℕ). front ++ t) (append-nil bits)
+      ∙ append_assoc rest (0x80 ∷ replicate (N - 9 - n) 0) bits

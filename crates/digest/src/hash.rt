@@ -1,17 +1,16 @@
 // SHA-256 of a message that is there as a whole.
-ghost use Rattle.std.specs.Prelude.{◌≡◌, ℕ, ◌/◌, ◌%◌, List, ◌++◌, length};
+ghost use Rattle.std.specs.Prelude.{◌≡◌, ℕ, ◌/◌, ◌%◌, List, ◌++◌, length, fold};
+ghost use Rattle.compression.specs.Block.{compress as compressed};
 ghost use Rattle.digest.specs.Sha256.{initial, absorbed, padding, octets_of, sha256 as hash_of};
 
 use crate::constants::INITIAL;
-use crate::pad::{pad, put};
+use crate::pad::padded;
 use compression::compress;
 
-// The state after the whole blocks of m, which are read where they stand.
-pub(crate) fn absorb_blocks(h: [u32; 8], m: &[u8]) -> [u32; 8]
-    ensures { result ≡ absorbed (length m.now / 64) h m.now }
+// The state after blocks, which are read where they stand.
+pub(crate) fn absorb_blocks(mut h: [u32; 8], blocks: &[[u8; 64]]) -> [u32; 8]
+    ensures { result ≡ fold compressed h blocks.now }
 {
-    let (blocks, _) = m.as_chunks::<64>();
-    let mut h = h;
     for block in blocks {
         let next = compress(h, block);
         h = next;
@@ -24,19 +23,18 @@ pub(crate) fn last(h: [u32; 8], rest: &[u8], total: u64) -> [u32; 8]
     requires { length rest.now ≡ total % 64 }
     ensures { result ≡ absorbed (length (rest.now ++ padding total) / 64) h (rest.now ++ padding total) }
 {
-    let end = if rest.len() < 56 { 64 } else { 128 };
-    let tail = pad(rest, total, end);
-    absorb_blocks(h, &tail[0..end])
+    if rest.len() < 56 {
+        absorb_blocks(h, padded::<64>(rest, total).as_chunks::<64>().0)
+    } else {
+        absorb_blocks(h, padded::<128>(rest, total).as_chunks::<64>().0)
+    }
 }
 
 pub(crate) fn octets(v: [u32; 8]) -> [u8; 32]
     ensures { result ≡ octets_of v }
 {
     let mut out = [0u8; 32];
-    for i in 0..8usize {
-        let word = v[i].to_be_bytes();
-        put(&mut out, 4 * i, &word);
-    }
+    out.copy_from_slice(v.map(u32::to_be_bytes).as_flattened());
     out
 }
 
@@ -45,10 +43,9 @@ pub(crate) fn finish(h: [u32; 8], before: u64, m: &[u8]) -> [u8; 32]
     requires { before % 64 ≡ 0 }
     ensures { (p : List ℕ) → length p ≡ before → h ≡ absorbed (before / 64) initial p → result ≡ hash_of (p ++ m.now) }
 {
-    let whole = m.len() / 64 * 64;
-    let h = absorb_blocks(h, m);
+    let (blocks, rest) = m.as_chunks::<64>();
     let total = before.wrapping_add(m.len() as u64);
-    octets(last(h, &m[whole..], total))
+    octets(last(absorb_blocks(h, blocks), rest, total))
 }
 
 // The digest of a message.

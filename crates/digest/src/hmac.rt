@@ -11,9 +11,7 @@ fn keyed_block(key: &[u8; 32], pad: u8) -> [u8; 64]
     ensures { result ≡ keyed pad key.now }
 {
     let mut block = [pad; 64];
-    for (i, x) in key.iter().enumerate() {
-        block[i] = *x ^ pad;
-    }
+    block[..32].copy_from_slice(&key.map(|x| x ^ pad));
     block
 }
 

@@ -8,9 +8,5 @@ pub fn same_digest(a: &[u8; 32], b: &[u8; 32]) -> bool
     ensures is { result ≡ bytes_eq a.now b.now }
     ensures decides { Decides result (a.now ≡ b.now) }
 {
-    let mut differ = 0u8;
-    for (i, x) in a.iter().enumerate() {
-        differ |= *x ^ b[i];
-    }
-    differ == 0
+    a.iter().zip(b).fold(0, |differ, (x, y)| differ | (x ^ y)) == 0
 }

@@ -1,12 +1,7 @@
-use Rattle.std.proofs.Common.{◌≡◌, ◌-◌, ◌*◌, length, drop}
-use Rattle.compression.specs.Constants.{constants}
-use Rattle.compression.specs.Block.{rounds, schedule, words}
-use Rattle.compression.specs.Windows.{words_in}
+use Rattle.std.proofs.Common.{take}
+use Rattle.std.specs.List.{flat_map}
+use Rattle.compression.specs.Windows.{Leads}
 use Rattle.compression.proofs.block.compress.Given as goal
 
--- the rounds that are left lead to what all of them lead to
-abbrev pub invariant-loop-j : goal.invariant-loop-j
-invariant-loop-j l =
-    (rounds (drop (16 * l.j) constants) (schedule (48 - 16 * l.j) (words_in l.s)) l.s.v
-    ≡ rounds constants (schedule 48 (words 16 l.block)) l.h)
-    × (length (words_in l.s) ≡ 16)
+abbrev pub invariant-loop-k : goal.invariant-loop-k
+invariant-loop-k l = Leads l.initial.s l.s (flat_map (λ x. x) (take l.k-index l.sixteens))

@@ -1,8 +1,6 @@
-use Rattle.std.proofs.Common.{◌≡◌, drop}
-use lib.Lanes.{fold_l}
+use Rattle.std.proofs.Common.{◌≡◌, take, fold}
 use Rattle.compression.specs.Block.{compress}
 use Rattle.digest.proofs.hash.absorb_blocks.Given as goal
 
--- what is left of the blocks leads to the state that all of them lead to
 abbrev pub invariant-loop-block : goal.invariant-loop-block
-invariant-loop-block l = fold_l compress l.h (drop l.block-index l.blocks) ≡ fold_l compress l.initial.h l.blocks
+invariant-loop-block l = l.h ≡ fold compress l.fn.h (take l.block-index l.blocks)

@@ -1,26 +1,22 @@
-use Rattle.std.proofs.Common.{◌≡◌, ◌≤◌, eqb, length, Decides, sym, refl, ◌∙◌, arith, eq-eqb, eqb-true}
+use Rattle.std.proofs.Common.{◌≡◌, ℕ, eqb, Decides, refl, sym, ap, ◌∙◌, rules, eq-eqb, eqb-true}
+use Rattle.std.specs.List.{fold, zip}
+use Rattle.std.proofs.lemmas.Fn.{fold_over, fronts}
+use Rattle.std.proofs.lemmas.Iterator.{zips, YieldsList-from_slice, YieldsList-from_zip}
+use Rattle.std.proofs.lemmas.List.Sums.{fold_push}
 use Rattle.std.proofs.lemmas.Slice.Eq.{bytes_eq-Decides}
-use Rattle.std.proofs.lemmas.List.{take_all}
 use Rattle.std.proofs.lemmas.Bool.Decides.{same_from_decides}
-use Rattle.digest.proofs.SameLaws.{tells_more}
+use Rattle.digest.proofs.SameLaws.{gather, gathered}
 use Rattle.digest.proofs.same.same_digest.Goals as goal
-
-pub loop-i-init : goal.loop-i-init
-loop-i-init c = (λ _. refl, λ _. refl)
-
-pub loop-i-preserved : goal.loop-i-preserved
-loop-i-preserved c =
-    tells_more c.args.a.now c.args.b.now c.loop-i.i c.loop-i.differ (omega arith) (omega arith) c.loop-i.invariant
 
 pub returns : goal.returns
 returns c =
     let a = c.args.a.now in
     let b = c.args.b.now in
-    let d = c.loop-i.differ in
-    let la : length a ≤ c.loop-i.i = omega arith in
-    let lb : length b ≤ c.loop-i.i = omega arith in
-    let ta = take_all c.loop-i.i a la in
-    let tb = take_all c.loop-i.i b lb in
-    let told : Decides (eqb c.loop-i.differ 0) (c.args.a.now ≡ c.args.b.now) =
-    (λ t. sym ta ∙ c.loop-i.invariant.0 (eqb-true d 0 t) ∙ tb, λ e. eq-eqb d 0 (c.loop-i.invariant.1 (ta ∙ e ∙ sym tb))) in
+    let is : c.fold.result ≡ fold gather 0 (zip a b) =
+    fold_over (zips fronts fronts) (λ p. (p.0.now, p.1.now)) _ (λ ys d. d ≡ fold gather 0 ys) _
+    (λ ys d p r f k j. (let e : r ≡ gather d (p.0.now, p.1.now) = search rules in e ∙ ap (λ (n : ℕ). gather n (p.0.now, p.1.now)) k ∙ sym (fold_push gather 0 ys (p.0.now, p.1.now)), search rules))
+    c.zip.result (zip a b) 0 c.fold.result (YieldsList-from_zip (YieldsList-from_slice a cc) (YieldsList-from_slice b cc)).runs refl c.fold.ensures.ran in
+    let all = gathered a b 0 (c.told-a ∙ sym c.told-b) in
+    let told : Decides (eqb c.fold.result 0) (a ≡ b) =
+    (λ t. (all.0 (sym is ∙ eqb-true c.fold.result 0 t)).1, λ e. eq-eqb c.fold.result 0 (is ∙ all.1 (refl, e))) in
     record { is = same_from_decides _ _ told (bytes_eq-Decides a b); decides = told }
