@@ -1,8 +1,9 @@
 -- How long the longest run at the front of a list is.
-use Rattle.std.proofs.Common.{◌≡◌, ℕ, suc, ◌+◌, ◌≤◌, Bool, true, false, cond, List, [], ◌∷◌, length, drop, Some, None, unwrap_or, refl, ap, arith}
+use Rattle.std.proofs.Common.{◌≡◌, ℕ, suc, ◌+◌, ◌≤◌, Bool, true, false, cond, List, [], ◌∷◌, length, drop, Some, None, unwrap_or, refl, ap, arith, subst}
 use lib.Dec.{ltb}
 use Rattle.std.specs.List.{prefix_len}
 use Rattle.std.proofs.lemmas.Bool.Decides.{nat_tests}
+use Rattle.std.proofs.lemmas.List.Sums.{prefix_len-le-length}
 use Rattle.tokens.specs.Runs.{run}
 
 -- A run ends where an octet that fails the test is found, or else with the list.
@@ -17,9 +18,7 @@ pub found-or-len : (k n : ℕ) → k ≤ n → unwrap_or (cond (ltb k n) (Some k
 found-or-len k n h = grind (arith, nat_tests)
 
 pub run-within : (p : ℕ → Bool) (xs : List ℕ) → run p xs ≤ length xs
-unfolding run
-run-within p [] = omega arith
-run-within p (b ∷ bs) = elim (p b) as (λ v. cond v (suc (run p bs)) 0 ≤ suc (length bs)) [ true ↦ omega (arith, run-within p bs) | false ↦ omega arith ]
+run-within p xs = subst (λ (n : ℕ). n ≤ length xs) (run-prefix_len p p (λ b. refl) xs) (prefix_len-le-length p xs)
 
 behind : (p : ℕ → Bool) (b : ℕ) (bs : List ℕ) (v : Bool) → p b ≡ v → run p (drop (run p bs) bs) ≡ 0 → run p (drop (cond v (suc (run p bs)) 0) (b ∷ bs)) ≡ 0
 unfolding run

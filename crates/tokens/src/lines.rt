@@ -20,7 +20,7 @@ pub fn cut_line(text: &[u8]) -> (&[u8], &[u8])
 }
 
 // The lines of a text that are left, as they are taken one by one.
-#[derive(Drop)]
+#[derive(Clone, Debug, Drop)]
 pub struct Lines<'t> {
     rest: &'t [u8],
 }

@@ -22,7 +22,7 @@ fn cut_word(line: &[u8]) -> (&[u8], &[u8])
 }
 
 // The words of a line that are left, as they are taken one by one.
-#[derive(Drop)]
+#[derive(Clone, Debug, Drop)]
 pub struct Words<'t> {
     rest: &'t [u8],
 }

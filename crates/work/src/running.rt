@@ -16,6 +16,7 @@ pub enum Halt {
     Broken(io::Error),
 }
 
+// By hand, since clauses name the variant, and what thiserror derives for `#[from]` has no contract.
 impl From<AllocError> for Halt {
     ghost use Rattle.work.specs.declared.running.Halt.TheVariants.{Memory};
 
