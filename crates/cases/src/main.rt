@@ -5,14 +5,10 @@ use std::process::ExitCode;
 use work::running::*;
 
 fn run(rt: &HostRuntime) -> Result<(), Halt> {
-    let paths = arguments(rt)?;
-    run_files(rt, &paths)
+    run_files(rt, &arguments(rt)?)
 }
 
 // What went wrong has been named by then, so the end says no more than its status.
 fn main(rt: HostRuntime) -> ExitCode {
-    match run(&rt) {
-        Ok(()) => ExitCode::SUCCESS,
-        Err(_) => ExitCode::FAILURE,
-    }
+    run(&rt).map_or(ExitCode::FAILURE, |()| ExitCode::SUCCESS)
 }

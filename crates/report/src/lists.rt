@@ -1,20 +1,17 @@
 // What a list that keeps the profile holds, one value to a line.
-ghost use Rattle.std.specs.Prelude.{◌≡◌, Some, None};
+ghost use Rattle.std.specs.Prelude.{Some};
 ghost use Rattle.der.specs.Reads.{mapped};
 ghost use Rattle.items.specs.Parts.{piece_of};
-ghost use Rattle.telling.specs.Reasons.{reason_number};
 ghost use Rattle.block.specs.Blocks.{held_of};
 ghost use Rattle.list.specs.Lists.{listing_of};
-ghost use Rattle.report.specs.Said.{algorithm_text, block_text, entry_text, entries_text, list_text, signed_text};
+ghost use Rattle.report.specs.Said.{block_text, entry_text, entries_text, list_text, signed_text};
 
 use crate::values::*;
-use algorithm::identifiers::Algorithm;
 use block::fields::{Block, Entries};
 use crl::each::each_entry;
 use entry::entries::Entry;
 use list::signed::RevocationList;
 use std::fmt;
-use telling::reason::Reason;
 
 // One entry: its serial, the moment of revocation, and the number of the reason.
 #[derive(Clone, Copy)]
@@ -24,17 +21,14 @@ impl<'a> fmt::Display for EntryLine<'a> {
     ghost output = { λ e. Some (entry_text e.0) };
 
     fn fmt<W: fmt::Write>(&self, f: &mut fmt::Formatter<W>) -> fmt::Result {
-        let serial = Hex(self.0.serial.octets);
-        let date = Moment(self.0.date);
-        let reason = OrDash(reason_number(self.0.reason));
-        write!(f, "\n  entry {serial} {date} {reason}")
+        write!(
+            f,
+            "\n  entry {} {} {}",
+            Hex(self.0.serial.octets),
+            Moment(self.0.date),
+            OrDash(self.0.reason.map(u8::from))
+        )
     }
-}
-
-fn reason_number(reason: Option<Reason>) -> Option<u8>
-    ensures { result ≡ mapped reason_number reason }
-{
-    reason.map(u8::from)
 }
 
 // The entries in their order.
@@ -46,23 +40,9 @@ impl<'a> fmt::Display for EntryLines<'a> {
 
     fn fmt<W: fmt::Write>(&self, f: &mut fmt::Formatter<W>) -> fmt::Result {
         for entry in each_entry(self.0) {
-            let line = EntryLine(entry);
-            write!(f, "{line}")?;
+            write!(f, "{}", EntryLine(entry))?;
         }
         Ok(())
-    }
-}
-
-// How the list is signed, by the algorithm's code.
-#[derive(Clone, Copy)]
-pub struct AlgorithmLine(pub Algorithm);
-
-impl fmt::Display for AlgorithmLine {
-    ghost output = { λ a. Some (algorithm_text a.0) };
-
-    fn fmt<W: fmt::Write>(&self, f: &mut fmt::Formatter<W>) -> fmt::Result {
-        let code = u8::from(self.0);
-        write!(f, "\n  algorithm {code}")
     }
 }
 
@@ -74,14 +54,14 @@ impl<'a> fmt::Display for BlockLines<'a> {
     ghost output = { λ b. Some (block_text (held_of b.0)) };
 
     fn fmt<W: fmt::Write>(&self, f: &mut fmt::Formatter<W>) -> fmt::Result {
-        let issuer = Place(self.0.issuer);
-        let this = Moment(self.0.this_update);
-        let next = Moment(self.0.next_update);
-        let number = Hex(self.0.told.number.octets);
-        let expired = MomentOrDash(self.0.told.expired);
         write!(
             f,
-            "\n  issuer {issuer}\n  thisUpdate {this}\n  nextUpdate {next}\n  number {number}\n  expiredCertsOnCRL {expired}"
+            "\n  issuer {}\n  thisUpdate {}\n  nextUpdate {}\n  number {}\n  expiredCertsOnCRL {}",
+            Place(self.0.issuer),
+            Moment(self.0.this_update),
+            Moment(self.0.next_update),
+            Hex(self.0.told.number.octets),
+            OrDash(self.0.told.expired.map(Moment))
         )
     }
 }
@@ -94,17 +74,17 @@ impl<'a> fmt::Display for SignedLines<'a> {
     ghost output = { λ l. Some (signed_text (listing_of l.0)) };
 
     fn fmt<W: fmt::Write>(&self, f: &mut fmt::Formatter<W>) -> fmt::Result {
-        let block = Place(self.0.signed.item);
-        let signature = Place(self.0.signature.item);
-        let count = self.0.signed.block.entries.count;
         write!(
             f,
-            "\n  signed block {block}\n  signature {signature}\n  entries {count}"
+            "\n  signed block {}\n  signature {}\n  entries {}",
+            Place(self.0.signed.item),
+            Place(self.0.signature.item),
+            self.0.signed.block.entries.count
         )
     }
 }
 
-// All that a list holds.
+// All that a list holds; how it is signed is said by the algorithm's code.
 #[derive(Clone, Copy)]
 pub struct ListLines<'a>(pub RevocationList<'a>);
 
@@ -113,10 +93,13 @@ impl<'a> fmt::Display for ListLines<'a> {
 
     #[tactic(auto, unfolding(crate::specs::Said::list_text))]
     fn fmt<W: fmt::Write>(&self, f: &mut fmt::Formatter<W>) -> fmt::Result {
-        let algorithm = AlgorithmLine(self.0.signed.block.algorithm);
-        let block = BlockLines(self.0.signed.block);
-        let signed = SignedLines(self.0);
-        let entries = EntryLines(self.0.signed.block.entries);
-        write!(f, "{algorithm}{block}{signed}{entries}")
+        write!(
+            f,
+            "\n  algorithm {}{}{}{}",
+            u8::from(self.0.signed.block.algorithm),
+            BlockLines(self.0.signed.block),
+            SignedLines(self.0),
+            EntryLines(self.0.signed.block.entries)
+        )
     }
 }

@@ -34,22 +34,21 @@ fn input_word(input: Input) -> &'static str
 fn first_octets(rest: &[u8]) -> Option<Hex<'_>>
     ensures { MatchOption result (length rest.now ≡ 0) (λ h. (0 < length rest.now) × (h.0.now ≡ take 8 rest.now)) }
 {
-    if rest.is_empty() {
-        None
-    } else {
-        Some(Hex(&rest[0..rest.len().min(SHOWN)]))
-    }
+    rest.chunks(SHOWN).next().map(Hex)
 }
 
 impl<'o> fmt::Display for Refused<'o> {
     ghost output = { λ r. Some (refused_text (refused_of r.refusal) r.rest.now) };
 
     fn fmt<W: fmt::Write>(&self, f: &mut fmt::Formatter<W>) -> fmt::Result {
-        let number = u8::from(self.refusal.ground);
-        let input = input_word(self.refusal.input);
-        let offset = self.refusal.offset;
-        let octets = OrDash(first_octets(self.rest));
-        write!(f, "refused {number} {input} {offset} {octets}")
+        write!(
+            f,
+            "refused {} {} {} {}",
+            u8::from(self.refusal.ground),
+            input_word(self.refusal.input),
+            self.refusal.offset,
+            OrDash(first_octets(self.rest))
+        )
     }
 }
 
@@ -77,10 +76,7 @@ impl<'a, 'o> fmt::Display for Said<'a, 'o> {
                 label,
                 length,
                 list,
-            } => {
-                let lines = ListLines(list);
-                write!(f, "inspect {label}: {length} octets{lines}")
-            }
+            } => write!(f, "inspect {label}: {length} octets{}", ListLines(list)),
             Said::Refused {
                 verb,
                 label,

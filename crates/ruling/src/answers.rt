@@ -7,7 +7,7 @@ use crate::cases::*;
 use telling::reason::Reason;
 
 // The answer to a question. Lists count from 0, in the order in which they were taken.
-#[derive(Clone, Copy)]
+#[derive(Clone, Copy, Debug, PartialEq, Eq)]
 pub enum Answer {
     // No list rules.
     NoList,

@@ -30,7 +30,7 @@ pub struct Facts {
 }
 
 // An entry of a list. The serial is the first `size` of the octets: a line of a lent table has a fixed size and no heap.
-#[derive(Clone, Copy)]
+#[derive(Clone, Copy, Debug, PartialEq, Eq)]
 pub struct EntryLine {
     pub serial: [u8; 20],
     pub size: u8,
@@ -39,14 +39,14 @@ pub struct EntryLine {
 }
 
 // When and why a serial was revoked. Where it stands with other values, as in `Ruling`, callers name its two parts.
-#[derive(Clone, Copy)]
+#[derive(Clone, Copy, Debug, PartialEq, Eq)]
 pub struct Mark {
     pub date: u64,
     pub reason: Option<Reason>,
 }
 
 // What one list rules.
-#[derive(Clone, Copy)]
+#[derive(Clone, Copy, Debug, PartialEq, Eq)]
 pub enum Ruling {
     // It does not rule.
     Silent,

@@ -23,21 +23,20 @@ OCTETS is the path of a file, or hex: and hex digits. An empty line is passed ov
 
 fn run(rt: &HostRuntime) -> Result<(), Halt> {
     let words = arguments(rt)?;
-    if words.is_empty() {
-        eprintln!(rt; "{USAGE}")?;
-        return Err(Halt::Faulty);
+    match words.first().map(|word| word.as_str()) {
+        None => {
+            eprintln!(rt; "{USAGE}")?;
+            Err(Halt::Faulty)
+        }
+        Some("--help") => {
+            print!(rt; "{HELP}")?;
+            Ok(())
+        }
+        Some(_) => run_files(rt, &words),
     }
-    if words[0].as_str() == "--help" {
-        print!(rt; "{HELP}")?;
-        return Ok(());
-    }
-    run_files(rt, &words)
 }
 
 // What went wrong has been named by then, so the end says no more than its status.
 fn main(rt: HostRuntime) -> ExitCode {
-    match run(&rt) {
-        Ok(()) => ExitCode::SUCCESS,
-        Err(_) => ExitCode::FAILURE,
-    }
+    run(&rt).map_or(ExitCode::FAILURE, |()| ExitCode::SUCCESS)
 }

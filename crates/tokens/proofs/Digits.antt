@@ -1,14 +1,19 @@
--- One pair of digits, and the end of the reading of a hex word.
-use Rattle.std.proofs.Common.{◌≡◌, ℕ, ◌+◌, ◌*◌, ◌%◌, ◌<◌, ◌≤◌, List, [], ◌∷◌, ◌++◌, length, get_or, drop, Some, None, Option, sym, refl, ap, ◌∙◌, append_assoc, append-nil, arith}
-use Rattle.std.proofs.lemmas.List.{drop_more, drop_all}
+-- A hex word, pair by pair.
+use Rattle.std.proofs.Common.{◌≡◌, ℕ, zero, suc, ◌*◌, ◌/◌, ◌%◌, List, [], ◌∷◌, ◌++◌, length, get_or, Some, None, Option, sym, refl, ap, ◌∙◌, append_assoc, arith}
+use Rattle.std.specs.Simd.{first_chunks}
 use Rattle.tokens.specs.Hex.{digit_value, octet, before, unhexed}
+
+-- What pairs of digits write.
+abbrev pub paired : List (List ℕ) → Option (List ℕ)
+paired [] = Some []
+paired (p ∷ ps) = before (octet (digit_value (get_or p 0 0)) (digit_value (get_or p 1 0))) (paired ps)
 
 -- What is known of the octets, before what the rest writes.
 abbrev pub then : List ℕ → Option (List ℕ) → Option (List ℕ)
 then xs None = None
 then xs (Some ys) = Some (xs ++ ys)
 
-then-before : (xs : List ℕ) (x : ℕ) (o : Option (List ℕ)) → then xs (before (Some x) o) ≡ then (xs ++ x ∷ []) o
+pub then-before : (xs : List ℕ) (x : ℕ) (o : Option (List ℕ)) → then xs (before (Some x) o) ≡ then (xs ++ x ∷ []) o
 then-before xs x None = refl
 then-before xs x (Some ys) = ap (λ (l : List ℕ). Some l) (sym (append_assoc xs (x ∷ []) ys))
 
@@ -16,31 +21,19 @@ before-none : (o : Option ℕ) → before o None ≡ None
 before-none None = refl
 before-none (Some x) = refl
 
-octet-none : (o : Option ℕ) → octet o None ≡ None
-octet-none None = refl
-octet-none (Some x) = refl
-
 pub odd : (ds : List ℕ) → length ds % 2 ≡ 1 → unhexed ds ≡ None
 unfolding unhexed
 odd [] h = absurd (omega arith)
 odd (a ∷ []) h = refl
 odd (a ∷ b ∷ cs) h = rw (odd cs (omega arith)) (before-none _)
 
-pair : (ds : List ℕ) (n : ℕ) → n + 1 < length ds → unhexed (drop n ds) ≡ before (octet (digit_value (get_or ds n 0)) (digit_value (get_or ds (n + 1) 0))) (unhexed (drop (n + 1 + 1) ds))
+pub paired-chunks : (k : ℕ) (ds : List ℕ) → length ds ≡ k * 2 → paired (first_chunks 2 k ds) ≡ unhexed ds
 unfolding unhexed
-pair ds n h = ap unhexed (drop_more ds n 0 (omega arith) ∙ ap (λ (l : List ℕ). get_or ds n 0 ∷ l) (drop_more ds (n + 1) 0 h))
+paired-chunks zero [] h = refl
+paired-chunks zero (a ∷ ds) h = absurd (omega arith)
+paired-chunks (suc k) [] h = absurd (omega arith)
+paired-chunks (suc k) (a ∷ []) h = absurd (omega arith)
+paired-chunks (suc k) (a ∷ b ∷ cs) h = ap (before (octet (digit_value a) (digit_value b))) (paired-chunks k cs (omega arith))
 
-pub no-high : (ds : List ℕ) (n : ℕ) → n + 1 < length ds → digit_value (get_or ds n 0) ≡ None → unhexed (drop n ds) ≡ None
-no-high ds n h e = pair ds n h ∙ ap (λ (o : Option ℕ). before (octet o (digit_value (get_or ds (n + 1) 0))) (unhexed (drop (n + 1 + 1) ds))) e
-
-pub no-low : (ds : List ℕ) (n : ℕ) → n + 1 < length ds → digit_value (get_or ds (n + 1) 0) ≡ None → unhexed (drop n ds) ≡ None
-no-low ds n h e = pair ds n h ∙ ap (λ (o : Option ℕ). before (octet (digit_value (get_or ds n 0)) o) (unhexed (drop (n + 1 + 1) ds))) e ∙ ap (λ (o : Option ℕ). before o (unhexed (drop (n + 1 + 1) ds))) (octet-none (digit_value (get_or ds n 0)))
-
-pub one_more : (ds : List ℕ) (n : ℕ) (xs : List ℕ) (x y : ℕ) → n + 1 < length ds → digit_value (get_or ds n 0) ≡ Some x → digit_value (get_or ds (n + 1) 0) ≡ Some y → then xs (unhexed (drop n ds)) ≡ then (xs ++ (16 * x + y) ∷ []) (unhexed (drop (n + 1 + 1) ds))
-one_more ds n xs x y h d e =
-    let whole : unhexed (drop n ds) ≡ before (Some (16 * x + y)) (unhexed (drop (n + 1 + 1) ds)) = pair ds n h ∙ (λ i. before (octet (d i) (e i)) (unhexed (drop (n + 1 + 1) ds))) in
-    ap (then xs) whole ∙ then-before xs (16 * x + y) (unhexed (drop (n + 1 + 1) ds))
-
-pub none_left : (ds : List ℕ) (n : ℕ) (xs : List ℕ) → length ds ≤ n → then xs (unhexed (drop n ds)) ≡ Some xs
-unfolding unhexed
-none_left ds n xs h = ap (λ (l : List ℕ). then xs (unhexed l)) (drop_all n ds h) ∙ ap (λ (l : List ℕ). Some l) (append-nil xs)
+pub even : (ds : List ℕ) (ps : List (List ℕ)) → ps ≡ first_chunks 2 (length ds / 2) ds → length ds % 2 ≡ 0 → paired ps ≡ unhexed ds
+even ds ps e h = ap paired e ∙ paired-chunks (length ds / 2) ds (omega arith)

@@ -1,20 +1,24 @@
--- One step and the end of a scan for the longest run that keeps a test.
-use Rattle.std.proofs.Common.{◌≡◌, ℕ, suc, ◌+◌, ◌<◌, ◌≤◌, Bool, true, false, cond, List, [], ◌∷◌, length, get_or, drop, refl, ap, arith}
-use Rattle.std.proofs.lemmas.List.{at_drop_more, at_drop_all}
+-- How long the longest run at the front of a list is.
+use Rattle.std.proofs.Common.{◌≡◌, ℕ, suc, ◌+◌, ◌≤◌, Bool, true, false, cond, List, [], ◌∷◌, length, drop, Some, None, unwrap_or, refl, ap, arith, subst}
+use lib.Dec.{ltb}
+use Rattle.std.specs.List.{prefix_len}
+use Rattle.std.proofs.lemmas.Bool.Decides.{nat_tests}
+use Rattle.std.proofs.lemmas.List.Sums.{prefix_len-le-length}
 use Rattle.tokens.specs.Runs.{run}
 
-pub run_more : (p : ℕ → Bool) (xs : List ℕ) (i : ℕ) → i < length xs → run p (drop i xs) ≡ cond (p (get_or xs i 0)) (suc (run p (drop (i + 1) xs))) 0
+-- A run ends where an octet that fails the test is found, or else with the list.
+pub run-prefix_len : (p q : ℕ → Bool) → ((b : ℕ) → q b ≡ p b) → (xs : List ℕ) → prefix_len q xs ≡ run p xs
 unfolding run
-run_more p xs i h = at_drop_more (run p) xs i 0 h
+run-prefix_len p q e [] = refl
+run-prefix_len p q e (b ∷ bs) =
+    let more : 1 + run p bs ≡ suc (run p bs) = omega arith in
+    rw (e b, run-prefix_len p q e bs) (ap (λ n. cond (p b) n 0) more)
 
-pub run-all : (p : ℕ → Bool) (xs : List ℕ) (i : ℕ) → length xs ≤ i → run p (drop i xs) ≡ 0
-unfolding run
-run-all p xs i h = at_drop_all (run p) xs i h
+pub found-or-len : (k n : ℕ) → k ≤ n → unwrap_or (cond (ltb k n) (Some k) None) n ≡ k
+found-or-len k n h = grind (arith, nat_tests)
 
 pub run-within : (p : ℕ → Bool) (xs : List ℕ) → run p xs ≤ length xs
-unfolding run
-run-within p [] = omega arith
-run-within p (b ∷ bs) = elim (p b) as (λ v. cond v (suc (run p bs)) 0 ≤ suc (length bs)) [ true ↦ omega (arith, run-within p bs) | false ↦ omega arith ]
+run-within p xs = subst (λ (n : ℕ). n ≤ length xs) (run-prefix_len p p (λ b. refl) xs) (prefix_len-le-length p xs)
 
 behind : (p : ℕ → Bool) (b : ℕ) (bs : List ℕ) (v : Bool) → p b ≡ v → run p (drop (run p bs) bs) ≡ 0 → run p (drop (cond v (suc (run p bs)) 0) (b ∷ bs)) ≡ 0
 unfolding run

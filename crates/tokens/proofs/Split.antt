@@ -1,7 +1,8 @@
 -- Where a text is cut into its first line and the rest, and a line into its first word and the rest.
 use Rattle.std.proofs.Common.{◌≡◌, ℕ, suc, ◌+◌, ◌<◌, Bool, true, false, cond, not, List, [], ◌∷◌, length, take, drop, sym, refl, ap, ◌∙◌, add-one, arith, length-drop}
 use Rattle.std.proofs.lemmas.List.{length-take-le}
-use Rattle.tokens.proofs.Scans.{run-within, run-behind}
+use Rattle.std.specs.List.{before_first, position_or_len}
+use Rattle.tokens.proofs.Scans.{run-prefix_len, run-within, run-behind}
 use Rattle.tokens.specs.Runs.{run}
 use Rattle.tokens.specs.Lines.{in_line, onto, lines}
 use Rattle.tokens.specs.Words.{is_blank, in_word, words}
@@ -66,14 +67,22 @@ cut-falls xs after e h = rw (e, length-drop) (omega arith)
 pub cut_parts : (xs line after : List ℕ) → line ≡ take (run in_line xs) xs → after ≡ drop (run in_line xs + 1) xs → 0 < length xs → lines xs ≡ line ∷ lines after
 cut_parts xs line after f b h = first-line xs h ∙ (λ i. sym f i ∷ lines (sym (b ∙ ap (λ n. drop n xs) (add-one (run in_line xs))) i))
 
-pub no-word-left : (xs from word after : List ℕ) → from ≡ drop (run is_blank xs) xs → word ≡ take (run in_word from) from → after ≡ drop (run in_word from) from → length word ≡ 0 → (words xs ≡ []) × (words after ≡ [])
-no-word-left xs from word after f w a z =
-    let none : run is_blank from ≡ 0 = ap (run is_blank) f ∙ run-behind is_blank xs in
-    let short : run in_word from ≡ 0 = sym (ap length w ∙ length-take-le (run in_word from) from (run-within in_word from)) ∙ z in
-    let end : words from ≡ [] = no_word from none short in
-    (skipped xs ∙ ap words (sym f) ∙ end, ap words (a ∙ ap (λ n. drop n from) short) ∙ end)
+not-in_word : (b : ℕ) → not (in_word b) ≡ is_blank b
+not-in_word b = elim (is_blank b) as (λ v. not (not v) ≡ v) [ true ↦ refl | false ↦ refl ]
 
-pub next-word-is : (xs from word after : List ℕ) → from ≡ drop (run is_blank xs) xs → word ≡ take (run in_word from) from → after ≡ drop (run in_word from) from → 0 < length word → words xs ≡ word ∷ words after
+pub no-word-left : (xs from word after : List ℕ) → from ≡ drop (position_or_len in_word xs) xs → word ≡ before_first is_blank from → after ≡ drop (position_or_len is_blank from) from → length word ≡ 0 → (words xs ≡ []) × (words after ≡ [])
+no-word-left xs from word after f w a z =
+    let blanks = run-prefix_len is_blank (λ b. not (in_word b)) not-in_word xs in
+    let long = run-prefix_len in_word in_word (λ b. refl) from in
+    let none : run is_blank from ≡ 0 = ap (run is_blank) (f ∙ ap (λ n. drop n xs) blanks) ∙ run-behind is_blank xs in
+    let short : run in_word from ≡ 0 = sym (ap length (w ∙ ap (λ n. take n from) long) ∙ length-take-le (run in_word from) from (run-within in_word from)) ∙ z in
+    let end : words from ≡ [] = no_word from none short in
+    (skipped xs ∙ ap (λ n. words (drop n xs)) (sym blanks) ∙ ap words (sym f) ∙ end, ap words (a ∙ ap (λ n. drop n from) (long ∙ short)) ∙ end)
+
+pub next-word-is : (xs from word after : List ℕ) → from ≡ drop (position_or_len in_word xs) xs → word ≡ before_first is_blank from → after ≡ drop (position_or_len is_blank from) from → 0 < length word → words xs ≡ word ∷ words after
 next-word-is xs from word after f w a h =
-    let long : length word ≡ run in_word from = ap length w ∙ length-take-le (run in_word from) from (run-within in_word from) in
-    skipped xs ∙ ap words (sym f) ∙ first_word from (omega arith) ∙ (λ i. sym w i ∷ words (sym a i))
+    let blanks = run-prefix_len is_blank (λ b. not (in_word b)) not-in_word xs in
+    let end = run-prefix_len in_word in_word (λ b. refl) from in
+    let front : word ≡ take (run in_word from) from = w ∙ ap (λ n. take n from) end in
+    let long : length word ≡ run in_word from = ap length front ∙ length-take-le (run in_word from) from (run-within in_word from) in
+    skipped xs ∙ ap (λ n. words (drop n xs)) (sym blanks) ∙ ap words (sym f) ∙ first_word from (omega arith) ∙ (λ i. sym front i ∷ words (sym (a ∙ ap (λ n. drop n from) end) i))

@@ -1,6 +1,6 @@
 // Hex digits: a word of them, and the octets that it writes.
 ghost use Rattle.std.specs.Prelude.{◌≡◌, ℕ, ◌<◌, IfSome, IfOk, Some, None, MatchOption};
-ghost use Rattle.tokens.specs.Hex.{digit_value, unhexed};
+ghost use Rattle.tokens.specs.Hex.{digit_value, octet, unhexed};
 
 use std::alloc::{AllocError, Global};
 
@@ -9,12 +9,14 @@ fn nibble(b: u8) -> Option<u8>
     ensures value { result ≡ digit_value b }
     ensures bound { IfSome result (λ x. x < 16) }
 {
-    match b {
-        b'0'..=b'9' => Some(b - b'0'),
-        b'A'..=b'F' => Some(b - b'A' + 10),
-        b'a'..=b'f' => Some(b - b'a' + 10),
-        _ => None,
-    }
+    char::from(b).to_digit(16).map(|value| value as u8)
+}
+
+// The octet of two digits, where both are.
+fn octet(high: u8, low: u8) -> Option<u8>
+    ensures { result ≡ octet (digit_value high) (digit_value low) }
+{
+    Some(16 * nibble(high)? + nibble(low)?)
 }
 
 // The octets that a word of hex digits writes, two digits to an octet, or none where the word is no such word. An empty
@@ -22,19 +24,16 @@ fn nibble(b: u8) -> Option<u8>
 pub fn unhex(heap: Global, word: &[u8]) -> Result<Option<Vec<u8>>, AllocError>
     ensures value { IfOk result (λ o. MatchOption o (unhexed word.now ≡ None) (λ v. unhexed word.now ≡ Some v.items)) }
 {
-    if word.len() % 2 != 0 {
+    let (pairs, odd) = word.as_chunks::<2>();
+    if !odd.is_empty() {
         return Ok(None);
     }
-    let n = word.len() / 2;
-    let mut octets = Vec::with_capacity(heap, n)?;
-    for i in 0..n {
-        let Some(high) = nibble(word[2 * i]) else {
+    let mut octets = Vec::with_capacity(heap, pairs.len())?;
+    for [high, low] in pairs {
+        let Some(octet) = octet(*high, *low) else {
             return Ok(None);
         };
-        let Some(low) = nibble(word[2 * i + 1]) else {
-            return Ok(None);
-        };
-        octets.push(16 * high + low)?;
+        octets.push(octet)?;
     }
     Ok(Some(octets))
 }

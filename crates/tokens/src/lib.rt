@@ -4,4 +4,5 @@
 
 pub mod hex;
 pub mod lines;
+mod runs;
 pub mod words;

@@ -1,7 +1,10 @@
 // The words of a line: what stands between spaces and tabs, and nothing else parts words.
-ghost use Rattle.std.specs.Prelude.{◌≡◌, [], ◌∷◌, MatchOption};
-ghost use Rattle.tokens.specs.Runs.{run};
-ghost use Rattle.tokens.specs.Words.{is_blank, in_word, words};
+ghost use Rattle.std.specs.Prelude.{◌≡◌, ◌<◌, [], ◌∷◌, length};
+ghost use Rattle.std.specs.Iterator.{YieldsFirstRef, item_count};
+ghost use Rattle.tokens.specs.Words.{is_blank, words};
+
+use crate::runs::cut_before;
+use std::marker::Model;
 
 fn is_blank(b: u8) -> bool
     ensures { result ≡ is_blank b }
@@ -9,50 +12,48 @@ fn is_blank(b: u8) -> bool
     b == b' ' || b == b'\t'
 }
 
-// How many blanks stand first.
-fn blanks(line: &[u8]) -> usize
-    ensures { result ≡ run is_blank line.now }
+// The first word of a line, which is empty where no word is left, and what follows it.
+fn cut_word(line: &[u8]) -> (&[u8], &[u8])
+    ensures none { length result.0.now ≡ 0 → (words line.now ≡ []) × (words result.1.now ≡ []) }
+    ensures next { 0 < length result.0.now → words line.now ≡ result.0.now ∷ words result.1.now }
 {
-    for (i, b) in line.iter().enumerate() {
-        if !is_blank(*b) {
-            return i;
-        }
-    }
-    line.len()
+    let (_, from) = cut_before(line, |b| !is_blank(b));
+    cut_before(from, is_blank)
 }
 
-// How many octets stand before the first blank.
-fn word_length(line: &[u8]) -> usize
-    ensures { result ≡ run in_word line.now }
-{
-    for (i, b) in line.iter().enumerate() {
-        if is_blank(*b) {
-            return i;
-        }
-    }
-    line.len()
-}
-
-// What is left of a line, as its words are taken one by one.
-#[derive(Drop)]
+// The words of a line that are left, as they are taken one by one.
+#[derive(Clone, Debug, Drop)]
 pub struct Words<'t> {
-    pub rest: &'t [u8],
+    rest: &'t [u8],
+}
+
+impl<'t> Model for Words<'t> {
+    ghost use Rattle.std.specs.Prelude.{ℕ, List};
+    ghost use Rattle.tokens.specs.Words.{words};
+
+    ghost Value = { List (List ℕ) };
+
+    ghost view = { λ w. words w.rest.now };
 }
 
 impl<'t> Words<'t> {
     pub fn new(line: &'t [u8]) -> Words<'t>
-        ensures { result.rest.now ≡ line.now }
+        ensures { result ≡ words line.now }
     {
         Words { rest: line }
     }
+}
 
-    // Takes the next word, where one is left.
-    pub fn next_word(&mut self) -> Option<&'t [u8]>
-        ensures { MatchOption result ((words self.old.rest.now ≡ []) × (words self.new.rest.now ≡ [])) (λ w. words self.old.rest.now ≡ w.now ∷ words self.new.rest.now) }
-    {
-        let (_, from) = self.rest.split_at(blanks(self.rest));
-        let (word, after) = from.split_at(word_length(from));
-        self.rest = after;
-        if word.is_empty() { None } else { Some(word) }
+impl<'t> Iterator for Words<'t> {
+    type Item = &'t [u8];
+
+    ghost next_gives = { YieldsFirstRef (λ w. w) };
+
+    ghost remaining = { item_count (λ w. w) };
+
+    fn next(&mut self) -> Option<&'t [u8]> {
+        let (word, rest) = cut_word(self.rest);
+        self.rest = rest;
+        (!word.is_empty()).then_some(word)
     }
 }

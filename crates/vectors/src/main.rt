@@ -200,12 +200,12 @@ fn lengths(rt: &HostRuntime) -> Result<bool> {
 
 // The list 30 00 misses its signed block: ground 6, in the list, at offset 2.
 fn shortest_list(rt: &HostRuntime) -> io::Result<bool> {
-    let agree = match read_list(&[0x30, 0x00]) {
-        Ok(_) => false,
-        Err(refusal) => refusal.ground.number() == 6
-            && refusal.input.number() == 1
-            && refusal.offset == 2,
+    let due = Refusal {
+        ground: Ground::Unexpected,
+        input: Input::List,
+        offset: 2,
     };
+    let agree = read_list(&[0x30, 0x00]).err() == Some(due);
     println!(rt; "the list 30 00 is refused with 6, input 1, place 2: {agree}")?;
     Ok(agree)
 }

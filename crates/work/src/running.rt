@@ -4,11 +4,11 @@ ghost use Rattle.std.specs.Prelude.{◌≡◌, ◌≢◌, ◌≤◌, length, IfE
 use crate::writing::write_works;
 use std::alloc::{AllocError, AllocFailed};
 use std::io::Read;
-use std::{env, fmt, fs, io};
+use std::{env, fs, io};
 use workfile::reading::*;
 
 // Why the work was not carried out to its end. Faults have been named on standard error by then.
-#[derive(Drop)]
+#[derive(Debug, Drop)]
 pub enum Halt {
     Faulty,
     Memory,
@@ -16,6 +16,7 @@ pub enum Halt {
     Broken(io::Error),
 }
 
+// By hand, since clauses name the variant, and what thiserror derives for `#[from]` has no contract.
 impl From<AllocError> for Halt {
     ghost use Rattle.work.specs.declared.running.Halt.TheVariants.{Memory};
 
@@ -36,17 +37,6 @@ impl<T: Drop> From<AllocFailed<T>> for Halt {
     }
 }
 
-// A text that grows fails for want of memory alone.
-impl From<fmt::Error> for Halt {
-    ghost use Rattle.work.specs.declared.running.Halt.TheVariants.{Memory};
-
-    ghost from_gives = { λ _ h. h ≡ Memory };
-
-    fn from(_e: fmt::Error) -> Halt {
-        Halt::Memory
-    }
-}
-
 impl From<io::Error> for Halt {
     ghost use Rattle.work.specs.declared.running.Halt.TheVariants.{Broken};
 
@@ -61,10 +51,7 @@ impl From<io::Error> for Halt {
 pub fn arguments(rt: &HostRuntime) -> Result<Vec<String>, Halt>
     ensures { IfErr result (λ h. h ≢ Halt.Faulty) }
 {
-    let mut words = Vec::new(rt.alloc());
-    for word in env::args(rt)?.skip(1) {
-        words.push(word)?;
-    }
+    let words: Vec<String> = env::args(rt)?.skip(1).collect(rt.alloc())?;
     Ok(words)
 }
 
@@ -88,14 +75,10 @@ fn look_at(rt: &HostRuntime, path: &str) -> Result<Option<Work>, Halt> {
         }
     };
     let work = read_work(rt, &text)?;
-    for flaw in work.flaws.iter() {
+    for flaw in &work.flaws {
         eprintln!(rt; "{path}: {flaw}")?;
     }
-    if work.flaws.is_empty() {
-        Ok(Some(work))
-    } else {
-        Ok(None)
-    }
+    Ok(work.flaws.is_empty().then_some(work))
 }
 
 // Every file is looked at, and its faults named, also behind one that is faulty.
@@ -105,7 +88,7 @@ fn look_at_all(rt: &HostRuntime, paths: &[String]) -> Result<Vec<Work>, Halt>
 {
     let mut works = Vec::new(rt.alloc());
     for path in paths {
-        if let Some(work) = look_at(rt, path.as_str())? {
+        if let Some(work) = look_at(rt, path)? {
             works.push(work)?;
         }
     }

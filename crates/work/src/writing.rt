@@ -17,7 +17,7 @@ pub fn write_works<W: Write>(heap: Global, works: &[Work], out: &mut W) -> Resul
     ensures error { IfErr result (λ h. h ≢ Halt.Faulty) }
 {
     for work in works {
-        let text = carry_out(heap, work.commands.as_slice())?;
+        let text = carry_out(heap, &work.commands)?;
         out.write_all(text.as_bytes())?;
     }
     Ok(())

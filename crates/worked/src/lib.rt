@@ -12,7 +12,7 @@ use ruling::drawing::answer;
 use ruling::listing::rule;
 
 // What the worked cases come to.
-#[derive(Clone, Copy)]
+#[derive(Clone, Copy, Debug, PartialEq, Eq)]
 pub struct Worked {
     pub answers: [Answer; 10],
     pub moments: [Option<u64>; 3],

@@ -1,3 +1,2 @@
 mod Steps
 mod Unprinted
-mod Verbs

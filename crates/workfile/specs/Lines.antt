@@ -1,5 +1,5 @@
 -- What the words of one line ask for, and what is wrong with those that ask for nothing.
-use Rattle.std.specs.Prelude.{◌≡◌, ℕ, ◌<◌, ◌⊎◌, List, [], ◌∷◌, ◌++◌, length, Some, None, vec_items, string_bytes, codes, IsUtf8, ◌≢◌}
+use Rattle.std.specs.Prelude.{◌≡◌, ℕ, ◌<◌, ◌⊎◌, List, [], ◌∷◌, ◌++◌, length, Some, None, vec_items, string_bytes, codes, IsUtf8, ◌≢◌, Result, MatchResult}
 use Rattle.tokens.specs.Hex.{unhexed}
 use Rattle.workfile.specs.declared.commands.Command.{Command}
 use Rattle.workfile.specs.declared.commands.Command.TheVariants.{Inspect}
@@ -26,6 +26,10 @@ Unmarked word = (digits : List ℕ) → Marked word digits → ⊥
 abbrev pub Given : List ℕ → Source → Type 0
 Given word (Hex digits) = Marked word digits.now
 Given word (Path path) = (word ≡ path.now) × Unmarked word
+
+-- What reading a word as a source gives.
+abbrev pub ReadsSource : List ℕ → Result Source Fault → Type 0
+ReadsSource word r = MatchResult r (Given word) (λ e. (e ≡ NotText) × (IsUtf8 word → ⊥))
 
 -- The octets of a source. Those of a file are no value that can be named here.
 abbrev pub Loaded : Source → List ℕ → Type 0
@@ -76,6 +80,10 @@ NotInspects ws Memory = Unit {0}
 
 abbrev pub verb_word : Verb → List ℕ
 verb_word verb.Inspect = codes "inspect"
+
+-- What reading a word as the first word of a command gives.
+abbrev pub ReadsVerb : List ℕ → Result Verb Fault → Type 0
+ReadsVerb word r = MatchResult r (λ v. word ≡ verb_word v) (λ e. (e ≡ NoCommand) × ((v : Verb) → word ≢ verb_word v))
 
 -- The command that the words of a line ask for.
 abbrev pub Asks : List (List ℕ) → Command → Type 0

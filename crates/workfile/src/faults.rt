@@ -4,9 +4,10 @@ ghost use Rattle.workfile.specs.declared.faults.Fault.TheVariants.{Memory};
 ghost use Rattle.workfile.specs.Messages.{fault_text};
 
 use std::alloc::{AllocError, AllocFailed};
+use std::error::Error;
 use std::{fmt, io};
 
-#[derive(Drop)]
+#[derive(Debug, Drop)]
 pub enum Fault {
     // The first word is no command.
     NoCommand,
@@ -22,6 +23,7 @@ pub enum Fault {
     Memory,
 }
 
+// By hand, since the clauses of `commands` name the fault, and what thiserror derives for `#[from]` has no contract.
 impl From<AllocError> for Fault {
     ghost from_gives = { λ _ y. y ≡ Memory };
 
@@ -38,6 +40,7 @@ impl<T: Drop> From<AllocFailed<T>> for Fault {
     }
 }
 
+// By hand, since `flaw_text` is proved of it, and the Display that thiserror derives states no output.
 impl fmt::Display for Fault {
     ghost output = { fault_text };
 
@@ -53,3 +56,5 @@ impl fmt::Display for Fault {
         }
     }
 }
+
+impl Error for Fault {}

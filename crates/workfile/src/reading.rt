@@ -7,13 +7,13 @@ ghost use Rattle.workfile.specs.Messages.{flaw_text};
 
 use crate::commands::*;
 use crate::faults::*;
-use std::alloc::{AllocError, Global};
+use std::alloc::AllocError;
 use std::fmt;
 use std::rt::Files;
-use tokens::lines::cut_line;
+use tokens::lines::Lines;
 
 // A faulty line, counted from 1.
-#[derive(Drop)]
+#[derive(Debug, Drop)]
 pub struct Flaw {
     pub line: usize,
     pub fault: Fault,
@@ -23,14 +23,12 @@ impl fmt::Display for Flaw {
     ghost output = { λ f. flaw_text f.line f.fault };
 
     fn fmt<W: fmt::Write>(&self, f: &mut fmt::Formatter<W>) -> fmt::Result {
-        let line = self.line;
-        let fault = &self.fault;
-        write!(f, "line {line}: {fault}")
+        write!(f, "line {}: {}", self.line, self.fault)
     }
 }
 
 // The commands of a work file and its faulty lines, each in the order of the file.
-#[derive(Drop)]
+#[derive(Debug, Drop)]
 pub struct Work {
     pub commands: Vec<Command>,
     pub flaws: Vec<Flaw>,
@@ -47,11 +45,8 @@ impl Work {
         ensures { OnOk result (Adds number (words_of line.now) self.old.commands.items self.old.flaws.items self.new.commands.items self.new.flaws.items) }
     {
         match read_command(rt, line) {
-            Ok(found) => {
-                if let Some(command) = found {
-                    self.commands.push(command)?;
-                }
-            }
+            Ok(None) => {}
+            Ok(Some(command)) => self.commands.push(command)?,
             Err(fault) => self.flaws.push(Flaw {
                 line: number,
                 fault,
@@ -65,18 +60,12 @@ impl Work {
 pub fn read_work<R: Files + AllocGlobal>(rt: &R, text: &[u8]) -> Result<Work, AllocError>
     ensures { IfOk result (λ w. Found 1 (lines_of text.now) w.commands.items w.flaws.items) }
 {
-    let heap = rt.alloc();
     let mut work = Work {
-        commands: Vec::new(heap),
-        flaws: Vec::new(heap),
+        commands: Vec::new(rt.alloc()),
+        flaws: Vec::new(rt.alloc()),
     };
-    let mut rest = text;
-    let mut number: usize = 0;
-    while !rest.is_empty() {
-        let (line, after) = cut_line(rest);
-        number += 1;
-        work.add(rt, number, line)?;
-        rest = after;
+    for (above, line) in Lines::new(text).enumerate() {
+        work.add(rt, above + 1, line)?;
     }
     Ok(work)
 }

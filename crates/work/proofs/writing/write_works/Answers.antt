@@ -20,7 +20,7 @@ loop-work-preserved g c =
     let f : Work → List ℕ = λ w. all_text (vec_items w.commands) in
     let before = g.W.Write.contents c.args.out.now in
     let after = g.W.Write.contents c.write_all.new.self in
-    let said : c.as_bytes.result.now ≡ f x = c.as_bytes.ensures.value ∙ c.in_ok-text.ensures ∙ ap all_text c.as_slice.ensures.value in
+    let said : c.as_bytes.result.now ≡ f x = c.as_bytes.ensures.value ∙ c.in_ok-text.ensures ∙ ap all_text c.deref.ensures.value in
     let one : Appends (g.W.Write.contents c.loop-work.out) after (f x) = subst (λ (bs : List ℕ). Appends (g.W.Write.contents c.loop-work.out) after bs) said c.in_ok-write_all.ensures.bytes in
     subst (λ (bs : List ℕ). Appends before after bs) (sym (flat_map-more f xs i x c.loop-work-test.true c.work-item.is)) (Appends-trans before (g.W.Write.contents c.loop-work.out) after _ _ c.loop-work.invariant one)
 
