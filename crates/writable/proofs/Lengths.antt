@@ -5,9 +5,8 @@ use Rattle.std.specs.Bool.{then_some}
 use Rattle.writable.specs.Sizes.{sized}
 use Rattle.encode.specs.Der.{der, length_octets}
 use Rattle.encode.proofs.Ders.{length-der}
-use Rattle.extension.specs.Extensions.{Extn}
 use Rattle.writable.specs.declared.extensions.Bare.{Bare}
-use Rattle.writable.specs.Extensions.{flag_octets, bare_octets, BareOf, extension_content, extension_octets}
+use Rattle.writable.specs.Extensions.{flag_octets, bare_content, extension_content, extension_octets}
 
 -- a header takes two to four octets
 pub head-within : (n : ℕ) → (1 ≤ length (length_octets n)) × (length (length_octets n) ≤ 3)
@@ -29,9 +28,6 @@ pub length-extension : (xs : List ℕ) (b : Bool) (ys : List ℕ) → length (ex
 unfolding extension_octets
 length-extension xs b ys = refl
 
-pub bare-of : (e : Extn) (b : Bare) → BareOf e b → bare_octets b ≡ extension_octets e.identifier.octets e.critical e.content.octets
-bare-of e b h = ap (λ xs. extension_octets xs b.critical b.content.now) h.identifier ∙ ap (λ f. extension_octets e.identifier.octets f b.content.now) h.critical ∙ ap (extension_octets e.identifier.octets e.critical) h.content
-
 -- the lengths of an extension and of its parts
 pub record Lengths (xs : List ℕ) (b : Bool) (ys : List ℕ) : Type 0 where
   pub whole : length (extension_octets xs b ys) ≡ 1 + length (length_octets (length (extension_content xs b ys))) + length (extension_content xs b ys)
@@ -52,6 +48,10 @@ lengths xs b ys = record {
   high4 = (der-within 4 ys).1;
   flag = flag-within b;
 }
+
+-- the same, and those of the header that is written for a content of n octets
+pub bare-lengths : (b : Bare) (n : ℕ) → n ≡ length (bare_content b) → Lengths b.identifier.now b.critical b.content.now × (length (length_octets n) ≡ length (length_octets (length (bare_content b))))
+bare-lengths b n e = (lengths b.identifier.now b.critical b.content.now, ap (λ k. length (length_octets k)) e)
 
 pub sized-not : (n : ℕ) → 65535 < n → None ≡ sized n
 sized-not n h = sym (cond-false (leb n 65535) (Some n) None (lt-leb n 65535 h))

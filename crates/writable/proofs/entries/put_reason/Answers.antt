@@ -6,10 +6,10 @@ use Rattle.writable.specs.Entries.{reason_octets}
 use Rattle.writable.proofs.Entered.{reason-length, reason-inner}
 use Rattle.writable.proofs.entries.put_reason.Goals as goal
 
-pub put_head-start-requires : goal.put_head-start-requires
-put_head-start-requires c =
+pub put_head-start-requires-clause-room : goal.put_head-start-requires-clause-room
+put_head-start-requires-clause-room c =
     let l = ap (λ o. length (reason_octets (mapped reason_number o))) c.in-Some.is ∙ reason-length (reason_number c.in-Some.found) in
-    record { room = omega arith; short = omega arith }
+    omega arith
 
 pub put-requires : goal.put-requires
 put-requires c =
