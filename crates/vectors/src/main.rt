@@ -200,12 +200,12 @@ fn lengths(rt: &HostRuntime) -> Result<bool> {
 
 // The list 30 00 misses its signed block: ground 6, in the list, at offset 2.
 fn shortest_list(rt: &HostRuntime) -> io::Result<bool> {
-    let due = Refusal {
-        ground: Ground::Unexpected,
-        input: Input::List,
-        offset: 2,
-    };
-    let agree = read_list(&[0x30, 0x00]).err() == Some(due);
+    let numbers = read_list(&[0x30, 0x00]).err().map(|refusal| (
+        u8::from(refusal.ground),
+        u8::from(refusal.input),
+        refusal.offset,
+    ));
+    let agree = numbers == Some((6, 1, 2));
     println!(rt; "the list 30 00 is refused with 6, input 1, place 2: {agree}")?;
     Ok(agree)
 }
