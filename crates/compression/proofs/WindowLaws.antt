@@ -1,12 +1,12 @@
 -- The words of a block in chunks, and rounds in fours, each with the window of sixteen words that follows.
-use Rattle.std.proofs.Common.{◌≡◌, ℕ, zero, suc, ◌+◌, ◌*◌, ◌<◌, List, [], ◌∷◌, ◌++◌, map, length, get_or, take, drop, sym, ap, ◌∙◌, arith, length-append, length-drop}
+use Rattle.std.proofs.Common.{◌≡◌, ℕ, zero, suc, ◌+◌, ◌*◌, ◌<◌, List, [], ◌∷◌, ◌++◌, map, length, get_or, take, drop, sym, ap, ◌∙◌, append_assoc, arith, length-append, length-drop}
 use Rattle.std.specs.List.{flat_map, range_with_len}
 use Rattle.std.specs.Simd.{first_chunks}
 use Rattle.std.proofs.lemmas.List.{get_or-take, get_or-drop, drop-drop, take-append-drop, take_all, length-take-le}
 use Rattle.std.proofs.Math.Seq.{take-add}
 use Rattle.compression.specs.Block.{word_of, word_at, words, schedule, rounds}
 use Rattle.compression.specs.Windows.{words_in, Leads}
-use Rattle.compression.specs.declared.block.Window.{Window}
+use Rattle.compression.specs.declared.schedule.Window.{Window}
 use Rattle.compression.proofs.BlockLaws.{schedule-add, schedule-append, rounds-append}
 
 word_of-same : {a b c d w x y z : ℕ} → a ≡ w → b ≡ x → c ≡ y → d ≡ z → word_of a b c d ≡ word_of w x y z
@@ -79,7 +79,7 @@ rounds-fours k a b c d v lk la lb lc =
 
 -- ---- four rounds lead to the window four words on
 pub leads-four : (s : Window) (x u k : List ℕ) → length s.w0 ≡ 4 → length s.w1 ≡ 4 → length s.w2 ≡ 4 → length s.w3 ≡ 4 → length x ≡ 4 → length k ≡ 4
-    → schedule 4 (words_in s) ≡ s.w0 ++ (s.w1 ++ (s.w2 ++ (s.w3 ++ x))) → u ≡ rounds k s.w0 s.v
+    → schedule 4 (words_in s) ≡ words_in s ++ x → u ≡ rounds k s.w0 s.v
     → Leads s (record { v = u; w0 = s.w1; w1 = s.w2; w2 = s.w3; w3 = x }) k
 leads-four s x u k l0 l1 l2 l3 lx lk es eu =
     let W : List ℕ = s.w1 ++ (s.w2 ++ (s.w3 ++ x)) in
@@ -90,5 +90,5 @@ leads-four s x u k l0 l1 l2 l3 lx lk es eu =
           ap (rounds ks (schedule n W)) eu
           ∙ sym (rounds-append k ks s.w0 (schedule n W) s.v (omega arith))
           ∙ ap (λ (ws : List ℕ). rounds (k ++ ks) ws s.v)
-          (sym (ap (λ (m : ℕ). schedule (m + n) (words_in s)) lk ∙ schedule-add 4 n (words_in s) ∙ ap (schedule n) es ∙ schedule-append n s.w0 W (omega arith)));
+          (sym (ap (λ (m : ℕ). schedule (m + n) (words_in s)) lk ∙ schedule-add 4 n (words_in s) ∙ ap (schedule n) (es ∙ simp append_assoc) ∙ schedule-append n s.w0 W (omega arith)));
     }

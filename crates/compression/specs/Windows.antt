@@ -1,7 +1,7 @@
 -- What a `Window` holds, and what is left to do after it.
 use Rattle.std.specs.Prelude.{◌≡◌, ℕ, ◌+◌, List, ◌++◌, length}
 use Rattle.compression.specs.Block.{schedule, rounds}
-use Rattle.compression.specs.declared.block.Window.{Window}
+use Rattle.compression.specs.declared.schedule.Window.{Window}
 
 -- its sixteen words, in order
 abbrev pub words_in : Window → List ℕ

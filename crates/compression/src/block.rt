@@ -1,25 +1,15 @@
 // The state after a block.
-ghost use Rattle.std.specs.Prelude.{◌≡◌, ◌++◌, length};
+ghost use Rattle.std.specs.Prelude.{◌≡◌, length};
 ghost use Rattle.std.specs.Simd.Lanes.{zip2};
 ghost use Rattle.compression.specs.Words.{plus};
-ghost use Rattle.compression.specs.Block.{schedule, rounds, words as words_of, compress as compressed};
+ghost use Rattle.compression.specs.Block.{rounds, words as words_of, compress as compressed};
 ghost use Rattle.compression.specs.Windows.{words_in, Leads};
 
 use crate::constants::K;
 use crate::load::four_words;
 use crate::rounds::four_rounds;
-use crate::schedule::next_four;
+use crate::schedule::Window;
 use std::simd::prelude::*;
-
-// Sixteen words of the schedule, and the working variables before the rounds of those words.
-#[derive(Clone, Copy)]
-struct Window {
-    v: [u32; 8],
-    w0: u32x4,
-    w1: u32x4,
-    w2: u32x4,
-    w3: u32x4,
-}
 
 // The words of a block, and the state as the working variables.
 fn start(h: [u32; 8], block: &[u8; 64]) -> Window
@@ -45,7 +35,7 @@ fn four(s: Window, k: &[u32; 4]) -> Window
         w0: s.w1,
         w1: s.w2,
         w2: s.w3,
-        w3: next_four(s.w0, s.w1, s.w2, s.w3),
+        w3: s.next_four(),
     }
 }
 
