@@ -34,7 +34,7 @@ fn input_word(input: Input) -> &'static str
 fn first_octets(rest: &[u8]) -> Option<Hex<'_>>
     ensures { MatchOption result (length rest.now ≡ 0) (λ h. (0 < length rest.now) × (h.0.now ≡ take 8 rest.now)) }
 {
-    rest.chunks(SHOWN).next().map(Hex)
+    (!rest.is_empty()).then(|| Hex(&rest[..rest.len().min(SHOWN)]))
 }
 
 impl<'o> fmt::Display for Refused<'o> {
