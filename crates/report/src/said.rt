@@ -1,5 +1,5 @@
 // What is said of one command. Every form of output is made from this enum alone, so that all of them say the same.
-ghost use Rattle.std.specs.Prelude.{◌≡◌, ◌<◌, length, take, Some, None, MatchOption};
+ghost use Rattle.std.specs.Prelude.{◌≡◌, ◌<◌, length, take, Some, MatchOption};
 ghost use Rattle.refusals.specs.Refusals.{input_number, refused_of};
 ghost use Rattle.report.specs.Said.{input_word, refused_text, said_text};
 
