@@ -1,5 +1,5 @@
 // What is said of one command. Every form of output is made from this enum alone, so that all of them say the same.
-ghost use Rattle.std.specs.Prelude.{◌≡◌, ◌<◌, length, take, Some, None, MatchOption};
+ghost use Rattle.std.specs.Prelude.{◌≡◌, ◌<◌, length, take, Some, MatchOption};
 ghost use Rattle.refusals.specs.Refusals.{input_number, refused_of};
 ghost use Rattle.report.specs.Said.{input_word, refused_text, said_text};
 
@@ -34,7 +34,7 @@ fn input_word(input: Input) -> &'static str
 fn first_octets(rest: &[u8]) -> Option<Hex<'_>>
     ensures { MatchOption result (length rest.now ≡ 0) (λ h. (0 < length rest.now) × (h.0.now ≡ take 8 rest.now)) }
 {
-    rest.chunks(SHOWN).next().map(Hex)
+    (!rest.is_empty()).then(|| Hex(&rest[..rest.len().min(SHOWN)]))
 }
 
 impl<'o> fmt::Display for Refused<'o> {

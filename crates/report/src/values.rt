@@ -1,5 +1,5 @@
 // The values that every answer is made of: octets, moments, places, and a dash for what is absent.
-ghost use Rattle.std.specs.Prelude.{◌≡◌, ℕ, ◌<◌, [], ◌∷◌, ◌++◌, length, Some, decimal};
+ghost use Rattle.std.specs.Prelude.{◌∷◌, ◌++◌, length, Some, decimal};
 ghost use Rattle.report.specs.Values.{hexed, moment_text, or_dash};
 
 use items::item::Part;

@@ -1,5 +1,5 @@
 // Hex digits: a word of them, and the octets that it writes.
-ghost use Rattle.std.specs.Prelude.{◌≡◌, ℕ, ◌<◌, IfSome, IfOk, Some, None, MatchOption};
+ghost use Rattle.std.specs.Prelude.{◌≡◌, ◌<◌, IfSome, IfOk, Some, None, MatchOption};
 ghost use Rattle.tokens.specs.Hex.{digit_value, octet, unhexed};
 
 use std::alloc::{AllocError, Global};

@@ -1,5 +1,5 @@
 // The whole of a work file, looked at before anything is carried out.
-ghost use Rattle.std.specs.Prelude.{ℕ, IfOk, OnOk};
+ghost use Rattle.std.specs.Prelude.{IfOk, OnOk};
 ghost use Rattle.tokens.specs.Lines.{lines as lines_of};
 ghost use Rattle.tokens.specs.Words.{words as words_of};
 ghost use Rattle.workfile.specs.Files.{Adds, Found};
