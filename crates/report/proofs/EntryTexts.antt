@@ -1,5 +1,5 @@
 -- The texts of entries, one by one. Assumes nothing.
-use Rattle.std.proofs.Common.{◌≡◌, ℕ, zero, suc, List, [], ◌∷◌, ◌++◌, Some, None, Option, refl, ap, ◌∙◌}
+use Rattle.std.proofs.Common.{◌≡◌, ℕ, zero, suc, List, [], ◌∷◌, ◌++◌, Some, None, Option, refl, ap}
 use Rattle.items.specs.Parts.{Piece}
 use Rattle.entry.specs.Entries.{Line}
 use Rattle.crl.specs.Law.{entry_in, first_in, rest_in}
