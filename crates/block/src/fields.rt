@@ -48,11 +48,7 @@ const ONE: &[u8] = &[1];
 fn version(reader: &mut Reader) -> Result<(), Fault>
     ensures { told (λ u. u) result reader.new ≡ version_at reader.old }
 {
-    let offset = reader.offset();
-    let content = reader.expect(INTEGER)?;
-    if content.octets != ONE {
-        return Err(unexpected(offset));
-    }
+    reader.expect_that(INTEGER, |content| content == ONE)?;
     Ok(())
 }
 
@@ -98,10 +94,7 @@ fn list_told<'a>(reader: &mut Reader<'a>) -> Result<ListTold<'a>, Fault>
 fn context<'a>(reader: &mut Reader<'a>) -> Result<ListTold<'a>, Fault>
     ensures { told list_told_of result reader.new ≡ context_at reader.old }
 {
-    let mut inner = reader.open(CONTEXT_0)?;
-    let told = list_told(&mut inner)?;
-    inner.end()?;
-    Ok(told)
+    reader.enclosed(CONTEXT_0, list_told)
 }
 
 // The content of the signed block.

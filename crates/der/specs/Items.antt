@@ -1,9 +1,10 @@
 -- The item in front of the octets. Assumes nothing.
-use Rattle.std.specs.Prelude.{ℕ, ◌+◌, Bool, cond, ◌&&◌, length, take, drop, Some, None, Ok, Err, Option, Result, ◌==◌, nat_lt, slice_index}
+use Rattle.std.specs.Prelude.{◌≡◌, List, OnOk, ℕ, ◌+◌, Bool, cond, ◌&&◌, length, take, drop, Some, None, Ok, Err, Option, Result, ◌==◌, nat_lt, slice_index}
 use Rattle.items.specs.declared.item.Head.{Head}
 use Rattle.der.specs.declared.reader.Whole.{Whole}
 use Rattle.refusals.specs.Refusals.{Flaw, flaw}
-use Rattle.der.specs.Reads.{Left, Got, Reads, got, bind, then, start_of, between}
+use Rattle.refusals.specs.declared.grounds.Fault.{Fault}
+use Rattle.der.specs.Reads.{seen, Left, Got, Reads, got, bind, then, start_of, between}
 use Rattle.items.specs.Parts.{Piece, piece_of}
 use Rattle.items.specs.Headers.{head_of, shortest}
 use Rattle.items.specs.Things.{Thing}
@@ -24,6 +25,10 @@ item_at s = cond (length s.rest == 0) (Err (flaw 6 s.offset)) (item_by s (head_o
 -- the content of an item that must have this tag
 unfoldable pub expect_at : ℕ → Reads Piece
 expect_at tag s = bind (item_at s) (λ i t. cond (i.tag == tag) (Ok (got i.content t)) (Err (flaw 6 s.offset)))
+
+-- the content of an item that must have this tag, where the content is admitted
+abbrev pub admitted_at : (List ℕ → Bool) → ℕ → Reads Piece
+admitted_at p tag s = bind (expect_at tag s) (λ c t. cond (p c.octets) (Ok (got c t)) (Err (flaw 6 s.offset)))
 
 -- an item as it stands and by its content
 pub record Wholly : Type 0 where
@@ -56,3 +61,13 @@ all_of m p = bind (m (start_of p)) (λ v t. then (end_at t) (λ e. Ok v))
 -- the next item begins with this tag
 abbrev pub next_is : ℕ → Left → Bool
 next_is tag s = nat_lt 0 (length s.rest) && slice_index s.rest 0 == tag
+
+-- What an item gives whose content is read up to its end: its own fault, else what a reading that R relates makes of the
+-- content, and the fault of an item that is left there. R s r t says that reading s gives r and leaves t.
+abbrev pub inside : {T : Type 0} → (Left → Result T Fault → Left → Type 0) → Result (Got Piece) Flaw → Result T Fault → Left → Type 0
+inside R (Err f) r t = seen (λ v. v) r ≡ Err f
+inside {T} R (Ok g) r t =
+    (q : Result T Fault) × (u : Left) × R (start_of g.value) q u × (seen (λ v. v) r ≡ then (seen (λ v. v) q) (λ v. then (end_at u) (λ e. Ok v))) × OnOk r (t ≡ g.left)
+
+abbrev pub Enclosed : {T : Type 0} → (Left → Result T Fault → Left → Type 0) → ℕ → Left → Result T Fault → Left → Type 0
+Enclosed R tag s r t = inside R (expect_at tag s) r t

@@ -1,9 +1,10 @@
 // The reader: goes over the octets item by item, front to back, and stops at the first fault.
-ghost use Rattle.std.specs.Prelude.{◌≡◌, ℕ, ◌+◌, ◌-◌, ◌^◌, ◌<◌, ◌≤◌, ◌↔◌, length, take, drop, IfOk, OnErr, OnOk, IfSome, IsNone, IsTrue};
+ghost use Rattle.std.specs.Prelude.{◌≡◌, ℕ, Bool, List, ◌+◌, ◌-◌, ◌^◌, ◌<◌, ◌≤◌, ◌↔◌, length, take, drop, IfOk, OnErr, OnOk, IfSome, IsNone, IsTrue};
 ghost use Rattle.der.specs.Reads.{told, seen, start_of, between, part_left, PastAnItem};
 ghost use Rattle.items.specs.Parts.{piece_of, HasEnd};
 ghost use Rattle.refusals.specs.Refusals.{flaw_of, fault_at};
-ghost use Rattle.der.specs.Items.{item_at, expect_at, whole_at, raw_at, name_at, end_at, next_is, wholly_of};
+ghost use Rattle.std.specs.Fn.{FnOnceReturnsAt, FnOnceReturnsAtMut};
+ghost use Rattle.der.specs.Items.{Enclosed, admitted_at, item_at, expect_at, whole_at, raw_at, name_at, end_at, next_is, wholly_of};
 ghost use Rattle.items.specs.Things.{thing_of, item_number, number_of_tag};
 
 use items::header::*;
@@ -160,6 +161,23 @@ impl<'a> Reader<'a> {
         Ok(item.content())
     }
 
+    // Reads the item in front, which must have the tag and a content that is admitted, and gives its content.
+    pub fn expect_that<F: FnOnce(&[u8]) -> bool>(
+        &mut self,
+        tag: u8,
+        admits: F,
+    ) -> Result<Part<'a>, Fault>
+        requires { F.IsAlwaysCallable admits }
+        ensures { (p : List ℕ → Bool) → ((xs : List ℕ) (b : Bool) → FnOnceReturnsAt F.FnOnce admits xs b → b ≡ p xs) → told piece_of result self.new ≡ admitted_at p tag self.old }
+    {
+        let offset = self.offset;
+        let content = self.expect(tag)?;
+        if !admits(content.octets) {
+            return Err(unexpected(offset));
+        }
+        Ok(content)
+    }
+
     // Reads the item in front, which must have the tag, and gives a reader of its content.
     pub fn open(&mut self, tag: u8) -> Result<Reader<'a>, Fault>
         ensures read { told part_left result self.new ≡ expect_at tag self.old }
@@ -170,6 +188,22 @@ impl<'a> Reader<'a> {
             rest: content.octets,
             offset: content.offset,
         })
+    }
+
+    // Reads the item in front, which must have the tag, by a reading of its content that goes to its end.
+    pub fn enclosed<T: Drop, F: FnOnce(&mut Reader<'a>) -> Result<T, Fault>>(
+        &mut self,
+        tag: u8,
+        read: F,
+    ) -> Result<T, Fault>
+        requires { F.IsAlwaysCallable read }
+        ensures read { Enclosed (FnOnceReturnsAtMut F.FnOnce read) tag self.old result self.new }
+        ensures long { OnOk result (PastAnItem self.old self.new) }
+    {
+        let mut inner = self.open(tag)?;
+        let value = read(&mut inner)?;
+        inner.end()?;
+        Ok(value)
     }
 
     // Reads the item in front, which must have the tag, and gives it as it stands and by its content.

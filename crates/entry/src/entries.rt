@@ -40,12 +40,7 @@ pub fn is_serial(octets: &[u8]) -> bool
 fn serial<'a>(reader: &mut Reader<'a>) -> Result<Part<'a>, Fault>
     ensures { told piece_of result reader.new ≡ serial_at reader.old }
 {
-    let offset = reader.offset();
-    let content = reader.expect(INTEGER)?;
-    if !is_serial(content.octets) {
-        return Err(unexpected(offset));
-    }
-    Ok(content)
+    reader.expect_that(INTEGER, is_serial)
 }
 
 // The reason that an entry's extensions tell, if it has any.
@@ -82,10 +77,7 @@ pub fn read_entry<'a>(reader: &mut Reader<'a>) -> Result<Entry<'a>, Fault>
     ensures read { told line_of result reader.new ≡ entry_at reader.old }
     ensures long { OnOk result (PastAnItem reader.old reader.new) }
 {
-    let mut inner = reader.open(SEQUENCE)?;
-    let entry = entry_body(&mut inner)?;
-    inner.end()?;
-    Ok(entry)
+    reader.enclosed(SEQUENCE, entry_body)
 }
 
 impl<'a> Readable<'a, Plain> for Entry<'a> {

@@ -23,14 +23,10 @@ const TRUE: &[u8] = &[0xff];
 fn flag(reader: &mut Reader) -> Result<bool, Fault>
     ensures { told (λ b. b) result reader.new ≡ flag_at reader.old }
 {
-    let offset = reader.offset();
     if !reader.next_is(BOOLEAN) {
         return Ok(false);
     }
-    let content = reader.expect(BOOLEAN)?;
-    if content.octets != TRUE {
-        return Err(unexpected(offset));
-    }
+    reader.expect_that(BOOLEAN, |content| content == TRUE)?;
     Ok(true)
 }
 
@@ -82,6 +78,7 @@ fn read_extension<'a>(
     ensures long { OnOk result (PastAnItem reader.old reader.new) }
 {
     let at = reader.offset();
+    // Not by `enclosed`: of a closure that captures, the check did not find what it gives (tried).
     let mut inner = reader.open(SEQUENCE)?;
     let extension = body(&mut inner, context, before, at)?;
     inner.end()?;

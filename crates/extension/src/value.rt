@@ -32,18 +32,11 @@ fn is_number(octets: &[u8]) -> bool
     octets.len() <= MOST_OCTETS && is_from_zero(octets)
 }
 
-// A list's number: an INTEGER from 0 with at most 20 octets. It, the serial and the version differ in their test alone, and
-// stay apart: a reader that takes the test as a closure needs a clause over all tests for the one `if` that it saves.
-#[tactic(auto, unfolding(crate::specs::Values::number_at))]
+// A list's number: an INTEGER from 0 with at most 20 octets.
 fn number<'a>(reader: &mut Reader<'a>) -> Result<Part<'a>, Fault>
     ensures { told piece_of result reader.new ≡ number_at reader.old }
 {
-    let offset = reader.offset();
-    let content = reader.expect(INTEGER)?;
-    if !is_number(content.octets) {
-        return Err(unexpected(offset));
-    }
-    Ok(content)
+    reader.expect_that(INTEGER, is_number)
 }
 
 // expiredCertsOnCRL: a GeneralizedTime, before 2050 too.

@@ -38,11 +38,11 @@ fn signed_block<'a>(reader: &mut Reader<'a>) -> Result<SignedBlock<'a>, Fault>
     ensures { told block_as_of result reader.new ≡ signed_at reader.old }
 {
     let before = reader.rest();
-    let mut inner = reader.open(SEQUENCE)?;
-    let item = reader.since(before);
-    let block = read_block(&mut inner)?;
-    inner.end()?;
-    Ok(SignedBlock { item, block })
+    let block = reader.enclosed(SEQUENCE, read_block)?;
+    Ok(SignedBlock {
+        item: reader.since(before),
+        block,
+    })
 }
 
 // Whether the content of a BIT STRING is that of a signature: no unused bits, and at least one octet.
@@ -88,10 +88,7 @@ fn list_body<'a>(reader: &mut Reader<'a>) -> Result<RevocationList<'a>, Fault>
 fn one_list<'a>(reader: &mut Reader<'a>) -> Result<RevocationList<'a>, Fault>
     ensures { told listing_of result reader.new ≡ list_at reader.old }
 {
-    let mut inner = reader.open(SEQUENCE)?;
-    let list = list_body(&mut inner)?;
-    inner.end()?;
-    Ok(list)
+    reader.enclosed(SEQUENCE, list_body)
 }
 
 // The list that the octets are, up to their end.
