@@ -11,7 +11,7 @@ use items::item::Part;
 use std::marker::Model;
 
 // Entries that are still to come: so many, off the front of a run.
-#[derive(Drop)]
+#[derive(Clone, Debug, Drop)]
 pub struct Listed<'a> {
     run: Part<'a>,
     count: usize,

@@ -13,7 +13,7 @@ use refusals::grounds::*;
 use std::marker::Model;
 
 // What is left to read of some lent octets, and the offset at which that begins. Offsets up to the end fit a usize.
-#[derive(Drop)]
+#[derive(Clone, Debug, Drop)]
 pub struct Reader<'a> {
     rest: &'a [u8],
     offset: usize,

@@ -13,6 +13,7 @@ use refusals::grounds::*;
 fn moment_in(form: TimeForm, octets: &[u8]) -> Option<u64>
     ensures { result ≡ time_by (time_tag form) octets.now }
 {
+    // A match, and no table of readings: the forms are two, and one is held to its years besides.
     match form {
         TimeForm::Utc => read_utc(octets),
         TimeForm::Generalized => read_general(octets).filter(|moment| *moment >= FIRST_OF_2050),

@@ -37,7 +37,8 @@ fn moment_digits(m: u64) -> Option<[u8; 14]>
     time_of(m).map(digits)
 }
 
-// The GeneralizedTime of a moment.
+// The GeneralizedTime of a moment. It and the two texts below lay the same digits out, each in its own way, and stay apart: of
+// a closure over an array pattern nothing is inferred (tried).
 #[tactic(auto, using(crate::proofs::Laws::laws), unfolding(crate::specs::Texts::general_text, crate::specs::Forms::lay))]
 pub fn general_text(m: u64) -> Option<[u8; 15]>
     ensures text { result ≡ general_text m }

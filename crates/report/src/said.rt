@@ -10,7 +10,7 @@ use refusals::grounds::*;
 use std::fmt;
 
 // A refusal with the octets that stand at its place.
-#[derive(Clone, Copy)]
+#[derive(Clone, Copy, Debug, PartialEq, Eq)]
 pub struct Refused<'o> {
     pub refusal: Refusal,
     pub rest: &'o [u8],
@@ -19,7 +19,7 @@ pub struct Refused<'o> {
 // How many octets of what is refused are shown.
 const SHOWN: usize = 8;
 
-// The input that a refusal stands in.
+// The input that a refusal stands in. A word of this text alone, so that it is no Display of the input.
 fn input_word(input: Input) -> &'static str
     ensures { result.now ≡ input_word (input_number input) }
 {
@@ -53,7 +53,7 @@ impl<'o> fmt::Display for Refused<'o> {
 }
 
 // The label of a line and the octets of an input have owners of their own, hence two lifetimes.
-#[derive(Clone, Copy)]
+#[derive(Clone, Copy, Debug, PartialEq, Eq)]
 pub enum Said<'a, 'o> {
     Inspected {
         label: &'a str,

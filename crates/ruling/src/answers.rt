@@ -53,7 +53,7 @@ impl From<Answer> for u8 {
 }
 
 impl Answer {
-    // How far along the row the answer is.
+    // How far along the row the answer is. A method, since the conversion into a number is that of its kind.
     pub fn row(self) -> u8
         ensures { result ≡ row (answer_of self) }
     {
