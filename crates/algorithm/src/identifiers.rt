@@ -1,11 +1,10 @@
 // Signature algorithms, compared whole.
 ghost use Rattle.std.specs.Prelude.{◌≡◌};
 ghost use Rattle.std.specs.Result.{result_ok};
-ghost use Rattle.der.specs.Reads.{told, mapped};
+ghost use Rattle.der.specs.Reads.{told};
 ghost use Rattle.algorithm.specs.Algorithms.{algorithm_code, algorithm_octets, algorithm_in, algorithm_at, again_at};
 
 use der::reader::*;
-use items::item::*;
 use refusals::grounds::*;
 
 // The AlgorithmIdentifiers that are admitted, as they stand in a list.
@@ -31,7 +30,7 @@ pub enum Algorithm {
 
 // No algorithm that is admitted.
 #[derive(Clone, Copy, Debug, PartialEq, Eq)]
-pub struct NotAdmitted;
+pub struct UnknownAlgorithm;
 
 // The code of an algorithm.
 impl From<Algorithm> for u8 {
@@ -42,14 +41,14 @@ impl From<Algorithm> for u8 {
     }
 }
 
-// The algorithm with this AlgorithmIdentifier, if it is admitted.
+// The algorithm with this AlgorithmIdentifier, if it is admitted. By `==`: a match on fifteen octets was not proved (tried).
 impl<'a> TryFrom<&'a [u8]> for Algorithm {
-    type Error = NotAdmitted;
+    type Error = UnknownAlgorithm;
 
     ghost try_from_gives = { λ octets r. result_ok r ≡ algorithm_in octets.now };
 
     #[tactic(auto, unfolding(crate::specs::Algorithms::algorithm_in))]
-    fn try_from(octets: &'a [u8]) -> Result<Algorithm, NotAdmitted> {
+    fn try_from(octets: &'a [u8]) -> Result<Algorithm, UnknownAlgorithm> {
         if octets == SHA1_WITH_RSA {
             Ok(Algorithm::Sha1WithRsa)
         } else if octets == SHA256_WITH_RSA {
@@ -57,7 +56,7 @@ impl<'a> TryFrom<&'a [u8]> for Algorithm {
         } else if octets == HMAC_WITH_SHA256 {
             Ok(Algorithm::HmacWithSha256)
         } else {
-            Err(NotAdmitted)
+            Err(UnknownAlgorithm)
         }
     }
 }
@@ -82,9 +81,7 @@ pub fn read_algorithm(reader: &mut Reader) -> Result<Algorithm, Fault>
 {
     let offset = reader.offset();
     let item = reader.raw()?;
-    Algorithm::try_from(item.octets)
-        .ok()
-        .ok_or(unexpected(offset))
+    Algorithm::try_from(item.octets).map_err(|_| unexpected(offset))
 }
 
 // The algorithm behind the signed block, which must be the block's, octet for octet.

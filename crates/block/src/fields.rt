@@ -1,7 +1,6 @@
 // The signed block (TBSCertList).
 ghost use Rattle.std.specs.Prelude.{◌≡◌};
 ghost use Rattle.der.specs.Reads.{told};
-ghost use Rattle.items.specs.Parts.{piece_of};
 ghost use Rattle.block.specs.Blocks.{lines_of, list_told_of, held_of, version_at, entries_at, told_at, context_at, block_at};
 
 use algorithm::identifiers::*;

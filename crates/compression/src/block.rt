@@ -1,7 +1,5 @@
 // The state after a block.
 ghost use Rattle.std.specs.Prelude.{◌≡◌, length};
-ghost use Rattle.std.specs.Simd.Lanes.{zip2};
-ghost use Rattle.compression.specs.Words.{plus};
 ghost use Rattle.compression.specs.Block.{rounds, words as words_of, compress as compressed};
 ghost use Rattle.compression.specs.Windows.{words_in, Leads};
 
@@ -11,7 +9,7 @@ use crate::rounds::four_rounds;
 use crate::schedule::Window;
 use std::simd::prelude::*;
 
-// The words of a block, and the state as the working variables.
+// The words of a block, and the state as the working variables. Four vectors by four fixed places: there is nothing to count.
 fn start(h: [u32; 8], block: &[u8; 64]) -> Window
     ensures words { words_in result ≡ words_of 16 block.now }
     ensures state { result.v ≡ h }

@@ -32,11 +32,7 @@ fn read_by_meaning(octets: &[u8]) -> Result<RevocationList, Refusal>
     ensures { answered listing_of result ≡ read_of octets.now }
 {
     if octets.len() > MOST_LIST_OCTETS {
-        return Err(Refusal {
-            ground: Ground::TooLong,
-            input: Input::List,
-            offset: 0,
-        });
+        return Err(Ground::TooLong.at(0).within(Input::List));
     }
     whole_list(octets).map_err(|fault| fault.within(Input::List))
 }

@@ -4,7 +4,8 @@ use Rattle.items.specs.declared.item.Head.{Head}
 use Rattle.der.specs.declared.reader.Whole.{Whole}
 use Rattle.refusals.specs.Refusals.{Flaw, flaw}
 use Rattle.refusals.specs.declared.grounds.Fault.{Fault}
-use Rattle.der.specs.Reads.{seen, Left, Got, Reads, got, bind, then, start_of, between}
+use Rattle.der.specs.Reads.{seen, told, Left, Got, Reads, got, bind, then, start_of, between}
+use Rattle.items.specs.declared.item.Part.{Part}
 use Rattle.items.specs.Parts.{Piece, piece_of}
 use Rattle.items.specs.Headers.{head_of, shortest}
 use Rattle.items.specs.Things.{Thing}
@@ -25,10 +26,6 @@ item_at s = cond (length s.rest == 0) (Err (flaw 6 s.offset)) (item_by s (head_o
 -- the content of an item that must have this tag
 unfoldable pub expect_at : ℕ → Reads Piece
 expect_at tag s = bind (item_at s) (λ i t. cond (i.tag == tag) (Ok (got i.content t)) (Err (flaw 6 s.offset)))
-
--- the content of an item that must have this tag, where the content is admitted
-abbrev pub admitted_at : (List ℕ → Bool) → ℕ → Reads Piece
-admitted_at p tag s = bind (expect_at tag s) (λ c t. cond (p c.octets) (Ok (got c t)) (Err (flaw 6 s.offset)))
 
 -- an item as it stands and by its content
 pub record Wholly : Type 0 where
@@ -61,6 +58,15 @@ all_of m p = bind (m (start_of p)) (λ v t. then (end_at t) (λ e. Ok v))
 -- the next item begins with this tag
 abbrev pub next_is : ℕ → Left → Bool
 next_is tag s = nat_lt 0 (length s.rest) && slice_index s.rest 0 == tag
+
+-- What an item with this tag gives whose content must pass a test: its own fault, else the content, or 6 where R says that the
+-- test failed. R xs b says that the test of xs gives b.
+abbrev pub tested : (List ℕ → Bool → Type 0) → ℕ → Result (Got Piece) Flaw → Result Part Fault → Left → Type 0
+tested R p (Err f) r t = told piece_of r t ≡ Err f
+tested R p (Ok g) r t = (b : Bool) × R g.value.octets b × (told piece_of r t ≡ cond b (Ok (got g.value g.left)) (Err (flaw 6 p)))
+
+abbrev pub Tested : (List ℕ → Bool → Type 0) → ℕ → Left → Result Part Fault → Left → Type 0
+Tested R tag s r t = tested R s.offset (expect_at tag s) r t
 
 -- What an item gives whose content is read up to its end: its own fault, else what a reading that R relates makes of the
 -- content, and the fault of an item that is left there. R s r t says that reading s gives r and leaves t.

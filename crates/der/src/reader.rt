@@ -1,10 +1,10 @@
 // The reader: goes over the octets item by item, front to back, and stops at the first fault.
-ghost use Rattle.std.specs.Prelude.{◌≡◌, ℕ, Bool, List, ◌+◌, ◌-◌, ◌^◌, ◌<◌, ◌≤◌, ◌↔◌, length, take, drop, IfOk, OnErr, OnOk, IfSome, IsNone, IsTrue};
+ghost use Rattle.std.specs.Prelude.{◌≡◌, ℕ, ◌+◌, ◌^◌, ◌<◌, ◌≤◌, ◌↔◌, length, drop, IfOk, OnErr, OnOk, IfSome, IsNone, IsTrue};
 ghost use Rattle.der.specs.Reads.{told, seen, start_of, between, part_left, PastAnItem};
 ghost use Rattle.items.specs.Parts.{piece_of, HasEnd};
-ghost use Rattle.refusals.specs.Refusals.{flaw_of, fault_at};
+ghost use Rattle.refusals.specs.Refusals.{fault_at};
 ghost use Rattle.std.specs.Fn.{FnOnceReturnsAt, FnOnceReturnsAtMut};
-ghost use Rattle.der.specs.Items.{Enclosed, admitted_at, item_at, expect_at, whole_at, raw_at, name_at, end_at, next_is, wholly_of};
+ghost use Rattle.der.specs.Items.{Enclosed, Tested, item_at, expect_at, whole_at, raw_at, name_at, end_at, next_is, wholly_of};
 ghost use Rattle.items.specs.Things.{thing_of, item_number, number_of_tag};
 
 use items::header::*;
@@ -78,14 +78,16 @@ impl<'a> Reader<'a> {
 
     // The offset of what is left.
     pub fn offset(&self) -> usize
-        ensures { result ≡ self.now.offset }
+        ensures is { result ≡ self.now.offset }
+        ensures within { HasEnd (part_left self.now) }
     {
         self.offset
     }
 
     // How many octets are left.
     pub fn len(&self) -> usize
-        ensures { result ≡ length self.now.rest }
+        ensures is { result ≡ length self.now.rest }
+        ensures within { HasEnd (part_left self.now) }
     {
         self.rest.len()
     }
@@ -168,7 +170,9 @@ impl<'a> Reader<'a> {
         admits: F,
     ) -> Result<Part<'a>, Fault>
         requires { F.IsAlwaysCallable admits }
-        ensures { (p : List ℕ → Bool) → ((xs : List ℕ) (b : Bool) → FnOnceReturnsAt F.FnOnce admits xs b → b ≡ p xs) → told piece_of result self.new ≡ admitted_at p tag self.old }
+        ensures read { Tested (FnOnceReturnsAt F.FnOnce admits) tag self.old result self.new }
+        ensures within { IfOk result (λ p. HasEnd (piece_of p)) }
+        ensures long { OnOk result (PastAnItem self.old self.new) }
     {
         let offset = self.offset;
         let content = self.expect(tag)?;

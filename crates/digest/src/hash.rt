@@ -7,7 +7,8 @@ use crate::constants::INITIAL;
 use crate::pad::padded;
 use compression::compress;
 
-// The state after blocks, which are read where they stand.
+// The state after blocks, which are read where they stand. By a `for`: a fold by a function of another crate is given no
+// contract, and an array result may not be assigned at once (tried).
 pub(crate) fn absorb_blocks(mut h: [u32; 8], blocks: &[[u8; 64]]) -> [u32; 8]
     ensures { result ≡ fold compressed h blocks.now }
 {

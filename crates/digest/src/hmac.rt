@@ -19,7 +19,7 @@ fn keyed_block(key: &[u8; 32], pad: u8) -> [u8; 64]
 pub fn hmac_sha256(key: &[u8; 32], message: &[u8]) -> [u8; 32]
     ensures { result ≡ hmac_of key.now message.now }
 {
-    // the octets that the standard's ipad and opad repeat
+    // The octets that the standard's ipad and opad repeat
     let (ipad, opad) = (0x36, 0x5c);
     let inner = finish(compress(INITIAL, &keyed_block(key, ipad)), 64, message);
     finish(compress(INITIAL, &keyed_block(key, opad)), 64, &inner)

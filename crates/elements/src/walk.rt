@@ -1,5 +1,5 @@
 // Elements that can be read, and the one walk over a run of them.
-ghost use Rattle.std.specs.Prelude.{◌≡◌, ℕ, Result, OnOk};
+ghost use Rattle.std.specs.Prelude.{◌≡◌, Result, OnOk};
 ghost use Rattle.refusals.specs.declared.grounds.Fault.{Fault as Flawed};
 ghost use Rattle.der.specs.Reads.{Left, PastAnItem};
 ghost use Rattle.elements.specs.Runs.{Walked, kept};
@@ -22,7 +22,7 @@ pub trait Readable<'a, S>: Sized {
 #[derive(Clone, Copy, Debug, PartialEq, Eq)]
 pub struct Plain;
 
-// Keeps the element at its place, where the memory has that place.
+// Keeps the element at its place, where the memory has that place. By an index: the loan of `get_mut` left two goals (tried).
 fn keep<E: Drop>(out: &mut [E], at: usize, element: E)
     ensures { out.new ≡ kept out.old at element }
 {

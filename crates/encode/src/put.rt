@@ -46,7 +46,10 @@ pub fn put_head(out: &mut [u8], at: usize, tag: u8, n: usize) -> usize
     match n {
         0..=0x7f => put(out, at, &[tag, n as u8]),
         0x80..=0xff => put(out, at, &[tag, 0x81, n as u8]),
-        _ => put(out, at, &[tag, 0x82, (n / 256) as u8, (n % 256) as u8]),
+        _ => {
+            let [high, low] = (n as u16).to_be_bytes();
+            put(out, at, &[tag, 0x82, high, low])
+        }
     }
 }
 

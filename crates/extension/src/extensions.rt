@@ -15,7 +15,8 @@ pub struct Extension<'a> {
     pub told: Told<'a>,
 }
 
-// A place where extensions stand. It says in which context an extension there is read.
+// A place where extensions stand. It says in which context an extension there is read: as a type and no field, so that no
+// clause has to say that the context stays over a run.
 pub trait Place {
     ghost stands: { Context };
 

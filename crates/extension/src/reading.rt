@@ -1,8 +1,7 @@
 // Extensions as a kind of element, in a list and in an entry.
-ghost use Rattle.std.specs.Prelude.{◌≡◌, OnOk, Ok};
-ghost use Rattle.der.specs.Reads.{told, told_both, seen, then, part_left, PastAnItem};
-ghost use Rattle.telling.specs.Tells.{tells_of, silent};
-ghost use Rattle.elements.specs.Runs.{run_of};
+ghost use Rattle.std.specs.Prelude.{◌≡◌, OnOk};
+ghost use Rattle.der.specs.Reads.{told, told_both, seen, part_left, PastAnItem};
+ghost use Rattle.telling.specs.Tells.{tells_of};
 ghost use Rattle.extension.specs.Extensions.{extension_of, before_tells, unread, flag_at, body_at, extension_at, extension_step, told_by};
 
 use super::extensions::*;
@@ -10,7 +9,6 @@ use super::value::*;
 use der::reader::*;
 use elements::walk::*;
 use items::header::*;
-use items::item::*;
 use refusals::grounds::*;
 use telling::role::*;
 use telling::told::*;

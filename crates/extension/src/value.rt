@@ -33,6 +33,7 @@ fn is_number(octets: &[u8]) -> bool
 }
 
 // A list's number: an INTEGER from 0 with at most 20 octets.
+#[tactic(auto, unfolding(crate::specs::Values::number_at))]
 fn number<'a>(reader: &mut Reader<'a>) -> Result<Part<'a>, Fault>
     ensures { told piece_of result reader.new ≡ number_at reader.old }
 {
@@ -56,9 +57,7 @@ fn reason(reader: &mut Reader) -> Result<Reason, Fault>
 {
     let offset = reader.offset();
     let content = reader.expect(ENUMERATED)?;
-    Reason::try_from(content.octets)
-        .ok()
-        .ok_or(Ground::WrongReason.at(offset))
+    Reason::try_from(content.octets).map_err(|_| Ground::WrongReason.at(offset))
 }
 
 // What an extension with this role tells, whose content is left to read.

@@ -1,7 +1,7 @@
 // What octets are in DER, as relations; readers are exact on them. This crate holds the law that items keep.
 #![tactic(auto)]
 
-ghost use Rattle.std.specs.Prelude.{◌≡◌, ℕ, MatchResult};
+ghost use Rattle.std.specs.Prelude.{◌≡◌, MatchResult};
 ghost use Rattle.der.specs.Reads.{seen};
 ghost use Rattle.items.specs.Things.{Thing, thing_of};
 ghost use Rattle.grammar.specs.Law.{item_in, Stands, OneEncoding};

@@ -1,4 +1,4 @@
-// The header of an item, and the enum of items.
+// The header of an item, and what an item is by its tag.
 ghost use Rattle.std.specs.Prelude.{◌≡◌, ℕ, ◌+◌, ◌≤◌, length, IfSome};
 ghost use Rattle.items.specs.Parts.{piece_of};
 ghost use Rattle.items.specs.Headers.{head_of, fitted, shortest};

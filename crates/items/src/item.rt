@@ -15,7 +15,7 @@ pub enum TimeForm {
     Generalized,
 }
 
-// An item: what it is, the offset of its tag, and its content.
+// An item: what it is, the offset of its tag, and its content. Each case has both by itself, so that a match hands them out.
 #[derive(Clone, Copy, Debug, PartialEq, Eq)]
 pub enum Item<'a> {
     Integer {

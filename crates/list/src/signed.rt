@@ -1,7 +1,6 @@
 // The list around the signed block: algorithm and signature.
 ghost use Rattle.std.specs.Prelude.{◌≡◌};
 ghost use Rattle.der.specs.Reads.{told, seen};
-ghost use Rattle.items.specs.Parts.{piece_of};
 ghost use Rattle.list.specs.Lists.{block_as_of, signature_of, listing_of, signed_at, signature_is, signature_at, body_at, list_at, list_of};
 
 use algorithm::identifiers::*;
@@ -11,7 +10,8 @@ use items::header::*;
 use items::item::*;
 use refusals::grounds::*;
 
-// The signed block, as it stands and by what it says.
+// The signed block, as it stands and by what it says. It and the signature are no `Whole`, since their parts go by their own
+// names.
 #[derive(Clone, Copy, Debug, PartialEq, Eq)]
 pub struct SignedBlock<'a> {
     pub item: Part<'a>,

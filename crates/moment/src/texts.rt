@@ -83,7 +83,7 @@ fn full_year(yy: u8) -> u16
     }
 }
 
-// The moment that a GeneralizedTime is.
+// The moment that a GeneralizedTime is. What the three readers share is `Spelled`; each names its form and its year.
 #[tactic(auto, using(crate::proofs::Laws::laws), unfolding(crate::specs::Texts::general_read))]
 pub fn read_general(text: &[u8]) -> Option<u64>
     ensures read { result ≡ general_read text.now }

@@ -38,7 +38,7 @@ pub struct EntryLine {
     pub reason: Option<Reason>,
 }
 
-// When and why a serial was revoked. Where it stands with other values, as in `Ruling`, callers name its two parts.
+// When and why a serial was revoked. Rulings, answers and lines have the two parts by themselves, as their definitions name them.
 #[derive(Clone, Copy, Debug, PartialEq, Eq)]
 pub struct Mark {
     pub date: u64,

@@ -18,7 +18,7 @@ pub enum Reason {
 
 // No reason that is admitted.
 #[derive(Clone, Copy, Debug, PartialEq, Eq)]
-pub struct NotAdmitted;
+pub struct UnknownReason;
 
 impl From<Reason> for u8 {
     ghost from_gives = { λ reason n. n ≡ reason_number reason };
@@ -30,11 +30,11 @@ impl From<Reason> for u8 {
 
 // The reason with this number, if it is admitted.
 impl TryFrom<u64> for Reason {
-    type Error = NotAdmitted;
+    type Error = UnknownReason;
 
     ghost try_from_gives = { λ number r. mapped reason_number (result_ok r) ≡ reason_from number };
 
-    fn try_from(number: u64) -> Result<Reason, NotAdmitted> {
+    fn try_from(number: u64) -> Result<Reason, UnknownReason> {
         match number {
             1 => Ok(Reason::KeyCompromise),
             2 => Ok(Reason::CaCompromise),
@@ -43,21 +43,21 @@ impl TryFrom<u64> for Reason {
             5 => Ok(Reason::CessationOfOperation),
             9 => Ok(Reason::PrivilegeWithdrawn),
             10 => Ok(Reason::AaCompromise),
-            _ => Err(NotAdmitted),
+            _ => Err(UnknownReason),
         }
     }
 }
 
 // The reason that the content of an ENUMERATED says, if it is admitted.
 impl<'a> TryFrom<&'a [u8]> for Reason {
-    type Error = NotAdmitted;
+    type Error = UnknownReason;
 
     ghost try_from_gives = { λ octets r. mapped reason_number (result_ok r) ≡ reason_in octets.now };
 
-    fn try_from(octets: &'a [u8]) -> Result<Reason, NotAdmitted> {
+    fn try_from(octets: &'a [u8]) -> Result<Reason, UnknownReason> {
         match octets {
             [number] => Reason::try_from(u64::from(*number)),
-            _ => Err(NotAdmitted),
+            _ => Err(UnknownReason),
         }
     }
 }

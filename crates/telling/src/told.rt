@@ -1,5 +1,5 @@
 // What extensions have told.
-ghost use Rattle.std.specs.Prelude.{◌≡◌, Bool};
+ghost use Rattle.std.specs.Prelude.{◌≡◌};
 ghost use Rattle.telling.specs.Tells.{tells_of, silent, stood_in, merged};
 
 use super::reason::*;
@@ -14,7 +14,7 @@ pub struct Told<'a> {
     pub reason: Option<Reason>,
 }
 
-// Nothing told.
+// Nothing told. By hand, since a derived one does not state it.
 impl<'a> Default for Told<'a> {
     ghost is_default = { λ t. tells_of t ≡ silent };
 

@@ -20,7 +20,8 @@ fn octet(high: u8, low: u8) -> Option<u8>
 }
 
 // The octets that a word of hex digits writes, two digits to an octet, or none where the word is no such word. An empty
-// word writes no octets.
+// word writes no octets. Not by the crate `hex`: its error has want of memory as a case, which would have to be made an
+// AllocError by hand.
 pub fn unhex(heap: Global, word: &[u8]) -> Result<Option<Vec<u8>>, AllocError>
     ensures value { IfOk result (λ o. MatchOption o (unhexed word.now ≡ None) (λ v. unhexed word.now ≡ Some v.items)) }
 {

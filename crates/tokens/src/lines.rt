@@ -19,7 +19,8 @@ pub fn cut_line(text: &[u8]) -> (&[u8], &[u8])
     (line, rest.get(1..).unwrap_or_default())
 }
 
-// The lines of a text that are left, as they are taken one by one.
+// The lines of a text that are left, as they are taken one by one. No `split`: it gives one line more behind a last break, and
+// no clause can name what a chain of it yields.
 #[derive(Clone, Debug, Drop)]
 pub struct Lines<'t> {
     rest: &'t [u8],

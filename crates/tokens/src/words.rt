@@ -21,7 +21,7 @@ fn cut_word(line: &[u8]) -> (&[u8], &[u8])
     cut_before(from, is_blank)
 }
 
-// The words of a line that are left, as they are taken one by one.
+// What is left of a line, as its words are taken one by one. No `split` and `filter`: no clause can name what they yield.
 #[derive(Clone, Debug, Drop)]
 pub struct Words<'t> {
     rest: &'t [u8],
@@ -29,27 +29,33 @@ pub struct Words<'t> {
 
 impl<'t> Model for Words<'t> {
     ghost use Rattle.std.specs.Prelude.{ℕ, List};
-    ghost use Rattle.tokens.specs.Words.{words};
 
-    ghost Value = { List (List ℕ) };
+    ghost Value = { List ℕ };
 
-    ghost view = { λ w. words w.rest.now };
+    ghost view = { λ w. w.rest.now };
 }
 
 impl<'t> Words<'t> {
     pub fn new(line: &'t [u8]) -> Words<'t>
-        ensures { result ≡ words line.now }
+        ensures { result ≡ line.now }
     {
         Words { rest: line }
+    }
+
+    // What is left of the line.
+    pub fn rest(&self) -> &'t [u8]
+        ensures { result.now ≡ self.now }
+    {
+        self.rest
     }
 }
 
 impl<'t> Iterator for Words<'t> {
     type Item = &'t [u8];
 
-    ghost next_gives = { YieldsFirstRef (λ w. w) };
+    ghost next_gives = { YieldsFirstRef words };
 
-    ghost remaining = { item_count (λ w. w) };
+    ghost remaining = { item_count words };
 
     fn next(&mut self) -> Option<&'t [u8]> {
         let (word, rest) = cut_word(self.rest);

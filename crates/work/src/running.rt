@@ -1,4 +1,4 @@
-// Running work files: the one place where they are opened and where anything is printed.
+// Running work files: the one place where they are opened, and where what is wrong with them is named.
 ghost use Rattle.std.specs.Prelude.{◌≡◌, ◌≢◌, ◌≤◌, length, IfErr, IfOk, IsOk};
 
 use crate::writing::write_works;

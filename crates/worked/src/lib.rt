@@ -56,20 +56,15 @@ impl Listing {
             serial: &[7],
             moments,
         };
-        match self.date {
-            Some(date) => {
-                let mut serial = [0; 20];
-                serial[0] = 7;
-                let entry = EntryLine {
-                    serial,
-                    size: 1,
-                    date,
-                    reason: None,
-                };
-                rule(facts, &[entry], question, 10)
-            }
-            None => rule(facts, &[], question, 10),
-        }
+        let mut serial = [0; 20];
+        serial[0] = 7;
+        let entry = self.date.map(|date| EntryLine {
+            serial,
+            size: 1,
+            date,
+            reason: None,
+        });
+        rule(facts, entry.as_slice(), question, 10)
     }
 
     // The answer over it alone.

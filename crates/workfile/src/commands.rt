@@ -5,7 +5,6 @@ ghost use Rattle.workfile.specs.declared.faults.Fault.TheVariants.{MissingWord, 
 ghost use Rattle.workfile.specs.Lines.{Asks, Inspects, Labelled, Loaded, NotInspects, ReadsSource, ReadsVerb, Silent, Unloaded, Wrong, name_of};
 
 use crate::faults::*;
-use std::alloc::Global;
 use std::fs;
 use std::rt::Files;
 use tokens::hex::unhex;
@@ -85,27 +84,27 @@ fn read_text(word: &[u8]) -> Result<&str, Fault>
 
 // A word that must be there.
 fn take_word<'t>(words: &mut Words<'t>) -> Result<&'t [u8], Fault>
-    ensures { MatchResult result (λ w. words.old ≡ w.now ∷ words.new) (λ e. (words.old ≡ []) × (e ≡ MissingWord)) }
+    ensures { MatchResult result (λ w. words_of words.old ≡ w.now ∷ words_of words.new) (λ e. (words_of words.old ≡ []) × (e ≡ MissingWord)) }
 {
     words.next().ok_or(Fault::MissingWord)
 }
 
 fn take_end(words: &mut Words) -> Result<(), Fault>
-    ensures { MatchResult result (λ _. words.old ≡ []) (λ e. (0 < length words.old) × (e ≡ ExtraWord)) }
+    ensures { MatchResult result (λ _. words_of words.old ≡ []) (λ e. (0 < length (words_of words.old)) × (e ≡ ExtraWord)) }
 {
     words.next().map_or(Ok(()), |_| Err(Fault::ExtraWord))
 }
 
 // The label that ends the line, or the name of the source where there is none.
 fn take_label<'t>(words: &mut Words<'t>, source: Source<'t>) -> Result<&'t str, Fault>
-    ensures { MatchResult result (λ l. Labelled source.entry words.old l.now words.new) (λ e. (e ≡ NotText) × ((word : List ℕ) × (words.old ≡ word ∷ words.new) × (IsUtf8 word → ⊥))) }
+    ensures { MatchResult result (λ l. Labelled source.entry (words_of words.old) l.now (words_of words.new)) (λ e. (e ≡ NotText) × ((word : List ℕ) × (words_of words.old ≡ word ∷ words_of words.new) × (IsUtf8 word → ⊥))) }
 {
     words.next().map_or(Ok(source.name()), read_text)
 }
 
 // `inspect OCTETS [LABEL]`, after its first word.
 fn inspect_line<'t, R: Files + AllocGlobal>(rt: &R, words: &mut Words<'t>) -> Result<Command, Fault>
-    ensures { MatchResult result (λ c. Inspects words.old c) (λ e. NotInspects words.old e) }
+    ensures { MatchResult result (λ c. Inspects (words_of words.old) c) (λ e. NotInspects (words_of words.old) e) }
 {
     let source = Source::try_from(take_word(words)?)?;
     let label = take_label(words, source)?;

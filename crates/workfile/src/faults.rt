@@ -32,6 +32,7 @@ impl From<AllocError> for Fault {
     }
 }
 
+// Besides, since a collection fails by an error of its own.
 impl<T: Drop> From<AllocFailed<T>> for Fault {
     ghost from_gives = { λ _ y. y ≡ Memory };
 

@@ -48,10 +48,7 @@ fn put_time(date: u64, out: &mut [u8], at: usize) -> usize
 fn reason_size(reason: Option<Reason>) -> usize
     ensures { result ≡ length (reason_octets (mapped reason_number reason)) }
 {
-    match reason {
-        None => 0,
-        Some(_) => 14,
-    }
+    reason.map_or(0, |_| 14)
 }
 
 // Writes the extensions of an entry: its reason, if it has one.

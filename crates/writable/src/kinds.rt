@@ -25,7 +25,7 @@ pub trait Writable<'a, S>: Readable<'a, S> {
 
     // Writes the element from a place on, and answers the place after it. Whatever reading what was written then gives,
     // it is an element that says the same, and what follows is left. For the crates that write runs and lists, which
-    // sum up the sizes first.
+    // sum up the sizes first. Memory and place are two arguments, as in `encode`.
     fn put(&self, out: &mut [u8], at: usize) -> usize
         requires room { at + length (written self.now) ≤ length out.old }
         requires short { length (written self.now) ≤ 65535 }
