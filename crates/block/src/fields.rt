@@ -14,7 +14,8 @@ use items::header::*;
 use items::item::*;
 use refusals::grounds::*;
 
-// Where the entries stand, if there are any, and how many.
+// Where the entries stand, if there are any, and how many. The count was made while the run was read; without it the run would
+// be walked again.
 #[derive(Clone, Copy, Debug, PartialEq, Eq)]
 pub struct Entries<'a> {
     pub run: Option<Part<'a>>,

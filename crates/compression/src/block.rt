@@ -48,7 +48,7 @@ fn sixteen(mut s: Window, k: &[u32; 16]) -> Window
     s
 }
 
-// The last sixteen rounds, which need no further words.
+// The last sixteen rounds, which need no further words. By four fixed places, since each takes another of the four vectors.
 fn last_sixteen(s: Window, k: &[u32]) -> [u32; 8]
     requires { length k.now ≡ 16 }
     ensures { result ≡ rounds k.now (words_in s) s.v }

@@ -11,7 +11,7 @@ fn word(octets: &[u8; 4]) -> u32
     u32::from_be_bytes(*octets)
 }
 
-// The four words of sixteen octets.
+// The four words of sixteen octets, by four fixed places.
 pub(crate) fn four_words(octets: &[u8; 16]) -> u32x4
     ensures { result ≡ words 4 octets.now }
 {

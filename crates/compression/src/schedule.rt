@@ -6,7 +6,7 @@ ghost use Rattle.compression.specs.Windows.{words_in};
 
 use std::simd::prelude::*;
 
-// Sixteen words of the schedule, and the working variables before the rounds of those words.
+// Sixteen words of the schedule, in four vectors that the rounds take by name, and the working variables before the rounds of those words.
 #[derive(Clone, Copy)]
 pub(crate) struct Window {
     pub(crate) v: [u32; 8],

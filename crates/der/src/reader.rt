@@ -122,7 +122,8 @@ impl<'a> Reader<'a> {
         }
     }
 
-    // Reads the item in front and goes past it.
+    // Reads the item in front and goes past it. That two octets are gone then is said of two states, so that no invariant can
+    // hold it.
     #[tactic(auto, unfolding(crate::specs::Items::item_at))]
     pub fn item(&mut self, laid: Laid) -> Result<Item<'a>, Fault>
         ensures read { told thing_of result self.new ≡ item_at self.old }
@@ -182,7 +183,7 @@ impl<'a> Reader<'a> {
         Ok(content)
     }
 
-    // Reads the item in front, which must have the tag, and gives a reader of its content.
+    // Reads the item in front, which must have the tag, and gives a reader of its content. Not by `of`, which can fail.
     pub fn open(&mut self, tag: u8) -> Result<Reader<'a>, Fault>
         ensures read { told part_left result self.new ≡ expect_at tag self.old }
         ensures long { OnOk result (PastAnItem self.old self.new) }

@@ -19,7 +19,8 @@ pub(crate) fn absorb_blocks(mut h: [u32; 8], blocks: &[[u8; 64]]) -> [u32; 8]
     h
 }
 
-// The state after the rest of a message of `total` octets and the padding.
+// The state after the rest of a message of `total` octets and the padding: a block or two, both of fixed size, since there is
+// no heap.
 pub(crate) fn last(h: [u32; 8], rest: &[u8], total: u64) -> [u32; 8]
     requires { length rest.now ≡ total % 64 }
     ensures { result ≡ absorbed (length (rest.now ++ padding total) / 64) h (rest.now ++ padding total) }
@@ -39,6 +40,7 @@ pub(crate) fn octets(v: [u32; 8]) -> [u8; 32]
     out
 }
 
+// State, count and rest stay apart, as the two callers have them.
 // The digest of a message whose first `before` octets, which are whole blocks, led to the state h, and whose rest is m.
 pub(crate) fn finish(h: [u32; 8], before: u64, m: &[u8]) -> [u8; 32]
     requires { before % 64 ≡ 0 }

@@ -1,7 +1,7 @@
 // Items and parts of the lent octets.
 
 // A part of the lent octets, with its offset. Clauses say what it holds by `piece_of`, and so of the types that are made of
-// parts: a type with a lifetime has no model where it is Copy.
+// parts: a type with a lifetime has no model where it is Copy. That a part's end is an offset stands in clauses for the same reason.
 #[derive(Clone, Copy, Debug, PartialEq, Eq)]
 pub struct Part<'a> {
     pub octets: &'a [u8],

@@ -49,7 +49,7 @@ fn signed_block<'a>(reader: &mut Reader<'a>) -> Result<SignedBlock<'a>, Fault>
 fn is_signature(content: &[u8]) -> bool
     ensures { result ≡ signature_is content.now }
 {
-    content.len() >= 2 && content[0] == 0
+    matches!(content, [0, _, ..])
 }
 
 // The signature.

@@ -23,7 +23,7 @@ pub fn fits(text: &[u8], form: &[u8]) -> bool
             .all(|(slot, octet)| fills(*slot, *octet))
 }
 
-// The two digits of a number below a hundred.
+// The two digits of a number below a hundred. By hand, since the core has no writer and no heap.
 pub fn two(n: u8) -> [u8; 2]
     ensures { result ≡ tens n ∷ ones n ∷ [] }
 {

@@ -59,7 +59,7 @@ impl Ground {
     }
 }
 
-// The input that a refusal speaks of.
+// The input that a refusal speaks of. Neither is a case, printed as number 0 like the others.
 #[derive(Clone, Copy, Debug, PartialEq, Eq)]
 pub enum Input {
     Neither = 0,

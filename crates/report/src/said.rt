@@ -52,7 +52,8 @@ impl<'o> fmt::Display for Refused<'o> {
     }
 }
 
-// The label of a line and the octets of an input have owners of their own, hence two lifetimes.
+// The label of a line and the octets of an input have owners of their own, hence two lifetimes. Cases and no Result, since each
+// command says something of its own.
 #[derive(Clone, Copy, Debug, PartialEq, Eq)]
 pub enum Said<'a, 'o> {
     Inspected {

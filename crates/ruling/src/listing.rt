@@ -6,7 +6,7 @@ ghost use Rattle.ruling.specs.Table.{Rules, Only};
 
 use crate::cases::*;
 
-// Whether a list covers the certificate.
+// Whether a list covers the certificate. Of the question it takes what it asks.
 pub fn covers(facts: Facts, issuer: u8, moments: Moments) -> bool
     ensures { result ≡ covers_by facts issuer moments }
 {

@@ -28,7 +28,7 @@ impl From<Reason> for u8 {
     }
 }
 
-// The reason with this number, if it is admitted.
+// The reason with this number, if it is admitted. Any number may be asked about.
 impl TryFrom<u64> for Reason {
     type Error = UnknownReason;
 

@@ -16,7 +16,7 @@ pub enum Context {
     Entry,
 }
 
-// What an extension is there.
+// What an extension is there. Every identifier has a role.
 #[derive(Clone, Copy, Debug, PartialEq, Eq)]
 pub enum Role {
     Number,

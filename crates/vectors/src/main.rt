@@ -198,7 +198,8 @@ fn lengths(rt: &HostRuntime) -> Result<bool> {
     Ok(all)
 }
 
-// The list 30 00 misses its signed block: ground 6, in the list, at offset 2.
+// The list 30 00 misses its signed block: ground 6, in the list, at offset 2. By the numbers, since those are printed and never
+// change.
 fn shortest_list(rt: &HostRuntime) -> io::Result<bool> {
     let numbers = read_list(&[0x30, 0x00]).err().map(|refusal| (
         u8::from(refusal.ground),

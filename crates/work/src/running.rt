@@ -95,6 +95,7 @@ fn look_at_all(rt: &HostRuntime, paths: &[String]) -> Result<Vec<Work>, Halt>
     Ok(works)
 }
 
+// Fewer works than paths say that one was faulty. What holds where no path is named is passed up to `run_files`.
 fn carry_out_all(rt: &HostRuntime, paths: &[String]) -> Result<(), Halt>
     ensures { length paths.now ≡ 0 → IsOk result }
 {

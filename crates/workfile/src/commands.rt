@@ -17,7 +17,7 @@ pub enum Command {
 }
 
 // Where a line has its octets.
-#[derive(Clone, Copy)]
+#[derive(Clone, Copy, Debug, PartialEq, Eq)]
 enum Source<'t> {
     Hex(&'t [u8]),
     Path(&'t str),
@@ -58,7 +58,7 @@ impl<'t> Source<'t> {
 }
 
 // The first word of a command.
-#[derive(Clone, Copy)]
+#[derive(Clone, Copy, Debug, PartialEq, Eq)]
 enum Verb {
     Inspect,
 }

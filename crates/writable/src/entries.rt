@@ -17,7 +17,8 @@ use moment::{general_text, utc_text};
 use telling::reason::*;
 use telling::role::REASON_CODE;
 
-// How many octets a date is written as.
+// How many octets a date is written as. Here and below by two matches: the texts are arrays of different lengths, so that no
+// one value holds either.
 fn time_size(date: u64) -> usize
     ensures { result ≡ length (time_octets date) }
 {
@@ -51,7 +52,7 @@ fn reason_size(reason: Option<Reason>) -> usize
     reason.map_or(0, |_| 14)
 }
 
-// Writes the extensions of an entry: its reason, if it has one.
+// Writes the extensions of an entry: its reason, if it has one. By a match, since a closure would borrow the memory.
 fn put_reason(reason: Option<Reason>, out: &mut [u8], at: usize) -> usize
     requires { at + length (reason_octets (mapped reason_number reason)) ≤ length out.old }
     ensures { Put at (reason_octets (mapped reason_number reason)) out.old out.new result }
