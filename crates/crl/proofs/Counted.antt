@@ -1,5 +1,5 @@
 -- Entries that are counted off a run. Assumes nothing.
-use Rattle.std.proofs.Common.{◌≡◌, ℕ, zero, suc, List, [], ◌∷◌, length, Some, None, Ok, Err, Option, Result, sym, refl, ap, ◌∙◌, arith, rules}
+use Rattle.std.proofs.Common.{◌≡◌, ℕ, zero, suc, ◌+◌, ◌^◌, ◌<◌, ltb, List, [], ◌∷◌, ◌++◌, length, Some, None, Ok, Err, Option, Result, sym, refl, ap, ◌∙◌, append-nil, length-append, arith, rules}
 use Rattle.std.specs.Iterator.{YieldsFirstBy, MakesProgress, item_count}
 use Rattle.refusals.specs.Refusals.{Flaw}
 use Rattle.items.specs.Parts.{Piece}
@@ -7,7 +7,11 @@ use Rattle.der.specs.Reads.{Got, mapped}
 use Rattle.entry.specs.declared.entries.Entry.{Entry}
 use Rattle.entry.specs.Entries.{Line, line_of}
 use Rattle.crl.specs.Law.{entry_in, first_in, rest_in}
-use Rattle.crl.specs.Listed.{so_many, before_rest}
+use Rattle.std.proofs.lemmas.Bool.{cond-true, lt-ltb}
+use Rattle.grammar.specs.Grammar.{Elements}
+use Rattle.crl.specs.Profile.{IsEntry}
+use Rattle.crl.specs.Listed.{so_many, before_rest, EntriesYielded}
+use Rattle.crl.proofs.Entered.{entry-exact}
 
 -- where no entry stands, the run stays, and none is to come
 rest-stays : (c : Piece) (x : Result (Got Line) Flaw) → None ≡ first_in x → rest_in c x ≡ c
@@ -38,3 +42,25 @@ pub goes : (can : List Line → Type 0) → ((ls : List Line) → can ls) → (s
     → MakesProgress can (item_count (λ (ls : List Line). ls)) s r t
 goes can h s t None y = record { on = λ _. tt; keeps = tt; rests = λ _. tt }
 goes can h s t (Some x) y = let l = ap length y in record { on = λ _. (h t, tt, omega arith); keeps = h t; rests = λ _. tt }
+
+-- where an entry stands in front of a run that has an end, the first step takes it and leaves the rest
+front-taken : (p : ℕ) (u w r : List ℕ) (e : Line) → u ≡ w ++ r → IsEntry p w e → p + length u < 2 ^ 64
+    → entry_in (record { octets = u; offset = p }) ≡ Ok (record { value = e; left = record { rest = r; offset = p + length w } })
+unfolding entry_in
+front-taken p u w r e was h k = cond-true (ltb (p + length u) (2 ^ 64)) _ _ (lt-ltb _ _ k) ∙ entry-exact.full _ _ tt (record { front = w; rest = was; offset = refl; shape = h })
+
+yielded : (es : List Line) (p : ℕ) (u : List ℕ) → Elements IsEntry p u es → p + length u < 2 ^ 64 → so_many (length es) (record { octets = u; offset = p }) ≡ es
+yielded [] p u h k = absurd h
+yielded (e ∷ []) p u h k =
+    let q = front-taken p u u [] e (sym (append-nil u)) h k in
+    one-comes 0 (record { octets = u; offset = p }) e (sym (ap first_in q)) ∙ ap (λ ls. e ∷ ls) (none-left _)
+yielded (e ∷ (x ∷ es)) p u h k =
+    let c : Piece = record { octets = u; offset = p } in
+    let q = front-taken p u h.0 h.1.0 e h.1.1 h.1.2 k in
+    let l = ap length h.1.1 in
+    one-comes (length (x ∷ es)) c e (sym (ap first_in q))
+    ∙ ap (λ ls. e ∷ ls) (ap (λ z. so_many (length (x ∷ es)) (rest_in c z)) q ∙ yielded (x ∷ es) (p + length h.0) h.1.0 h.1.3 (omega (arith, length-append h.0 h.1.0)))
+
+-- taking entries off a run yields those that stand in it
+pub entries-yielded : EntriesYielded
+entries-yielded c es h k = yielded es c.offset c.octets h k

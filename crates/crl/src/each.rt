@@ -2,7 +2,7 @@
 ghost use Rattle.std.specs.Prelude.{◌≡◌};
 ghost use Rattle.items.specs.Parts.{piece_of};
 ghost use Rattle.der.specs.Reads.{mapped};
-ghost use Rattle.crl.specs.Listed.{lines_listed};
+ghost use Rattle.crl.specs.Listed.{lines_listed, EntriesYielded};
 
 use super::read::next_entry;
 use block::fields::Entries;
@@ -50,7 +50,8 @@ impl<'a> Iterator for Listed<'a> {
 // The entries that stand in a list's run, in its order: as many as are counted, up to the first that is none.
 #[tactic(auto, unfolding(crate::specs::Listed::so_many))]
 pub fn each_entry<'a>(entries: Entries<'a>) -> Listed<'a>
-    ensures { result ≡ lines_listed (mapped piece_of entries.entry.run) entries.entry.count }
+    ensures listed { result ≡ lines_listed (mapped piece_of entries.entry.run) entries.entry.count }
+    ensures yielded { EntriesYielded }
 {
     match entries.run {
         Some(run) => Listed {

@@ -10,7 +10,7 @@ use Rattle.report.proofs.lists.EntryLinesDisplay.fmt.Goals as goal
 pub loop-entry-init : goal.loop-entry-init
 loop-entry-init g c =
     λ plain.
-    ([], record { wrote = writes_in_calls_nil g.W.Write.write_str_gives _; plain = plain }, ap lines_text (c.into_iter-entry-iterator.ensures.into_iter_gives ∙ c.each_entry-entry-items.ensures) ∙ sym (entries-lines (mapped piece_of c.args.self.now.0.run) c.args.self.now.0.count))
+    ([], record { wrote = writes_in_calls_nil g.W.Write.write_str_gives _; plain = plain }, ap lines_text (c.into_iter-entry-iterator.ensures.into_iter_gives ∙ c.each_entry-entry-items.ensures.listed) ∙ sym (entries-lines (mapped piece_of c.args.self.now.0.run) c.args.self.now.0.count))
 
 pub loop-entry-preserved : goal.loop-entry-preserved
 loop-entry-preserved g c =
