@@ -84,7 +84,7 @@ pub fn read_algorithm(reader: &mut Reader) -> Result<Algorithm, Fault>
     Algorithm::try_from(item.octets).map_err(|_| unexpected(offset))
 }
 
-// The algorithm behind the signed block, which must be the block's, octet for octet.
+// The algorithm behind the signed block, which must be the block's, octet for octet: it is compared and not read again.
 #[tactic(auto, unfolding(crate::specs::Algorithms::again_at))]
 pub fn algorithm_again(reader: &mut Reader, algorithm: Algorithm) -> Result<(), Fault>
     ensures { told (λ u. u) result reader.new ≡ again_at algorithm reader.old }

@@ -24,7 +24,7 @@ pub fn leap(year: u16) -> bool
     year % 4 == 0 && (year % 100 != 0 || year % 400 == 0)
 }
 
-// How many days the month has: none where there is no such month.
+// How many days the month has: none where there is no such month. Year and month are two arguments, since no day belongs to them.
 pub fn days_in(year: u16, month: u8) -> u8
     ensures { result ≡ days_in year month }
 {

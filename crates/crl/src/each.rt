@@ -10,7 +10,7 @@ use entry::entries::Entry;
 use items::item::Part;
 use std::marker::Model;
 
-// Entries that are still to come: so many, off the front of a run.
+// Entries that are still to come: so many, off the front of a run. They are counted, since a run does not say how many it has.
 #[derive(Clone, Debug, Drop)]
 pub struct Listed<'a> {
     run: Part<'a>,
@@ -57,6 +57,7 @@ pub fn each_entry<'a>(entries: Entries<'a>) -> Listed<'a>
             run,
             count: entries.count,
         },
+        // An empty part, of which none are to come.
         None => Listed {
             run: Part {
                 octets: &[],

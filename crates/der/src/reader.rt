@@ -110,7 +110,7 @@ impl<'a> Reader<'a> {
         }
     }
 
-    // What was read since this was left.
+    // What was read since this was left. No reading is handed over, since those that end so differ in all else.
     pub fn since(&self, before: Part<'a>) -> Part<'a>
         ensures { piece_of result ≡ between (start_of (piece_of before.entry)) self.now }
     {

@@ -2,7 +2,7 @@
 // All of these are for the crates that write elements and lists: there the lengths are summed up before anything is
 // written, so that a write that would not fit is refused with the memory untouched. Hence their `requires`.
 // Memory and place stay two arguments: a struct that holds the lent memory was tried, and every contract then needs a
-// clause more, that it still holds that memory.
+// clause more, that it still holds that memory. Lengths are a usize, as slices have them, and bounded in a clause.
 ghost use Rattle.std.specs.Prelude.{◌≡◌, ℕ, ◌+◌, ◌<◌, ◌≤◌, List, ◌∷◌, length};
 ghost use Rattle.encode.specs.Over.{Put};
 ghost use Rattle.encode.specs.Der.{der, length_octets, ItemsWritten};
@@ -37,7 +37,7 @@ pub fn item_size(n: usize) -> usize
     head_size(n) + n
 }
 
-// Writes tag and length.
+// Writes tag and length. The ranges are those of `head_size`.
 pub fn put_head(out: &mut [u8], at: usize, tag: u8, n: usize) -> usize
     requires room { at + (1 + length (length_octets n)) ≤ length out.old }
     requires short { n < 65536 }

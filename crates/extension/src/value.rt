@@ -40,7 +40,8 @@ fn number<'a>(reader: &mut Reader<'a>) -> Result<Part<'a>, Fault>
     reader.expect_that(INTEGER, is_number)
 }
 
-// expiredCertsOnCRL: a GeneralizedTime, before 2050 too.
+// expiredCertsOnCRL: a GeneralizedTime, before 2050 too. It and the reason differ in what reads the content and in the ground
+// of the fault.
 #[tactic(auto, unfolding(crate::specs::Values::expired_at))]
 fn expired(reader: &mut Reader) -> Result<u64, Fault>
     ensures { told (λ m. m) result reader.new ≡ expired_at reader.old }

@@ -36,7 +36,8 @@ fn run(rt: &HostRuntime) -> Result<(), Halt> {
     }
 }
 
-// What is wrong with a file has been named by then, so the end says no more than its status.
+// What is wrong with a file has been named by then, so the end says no more than its status, in
+// one expression in each program.
 fn main(rt: HostRuntime) -> ExitCode {
     run(&rt).map_or(ExitCode::FAILURE, |()| ExitCode::SUCCESS)
 }

@@ -127,7 +127,7 @@ fn borders() -> [Vector; 6] {
     ]
 }
 
-// A key of at most 32 octets, with zeros to 32: the block of HMAC's key ends in zeros anyway.
+// A key of at most 32 octets, with zeros to 32: the block of HMAC's key ends in zeros anyway. By `zip`, so that no length is asked.
 fn key_of(s: &[u8]) -> [u8; 32] {
     let mut key = [0u8; 32];
     for (k, x) in key.iter_mut().zip(s) {

@@ -106,7 +106,8 @@ fn carry_out_all(rt: &HostRuntime, paths: &[String]) -> Result<(), Halt>
     write_works(rt.alloc(), &works, &mut rt.stdout())
 }
 
-// Carries out work files, each by itself, once no line of any is faulty. Where there are none, nothing fails.
+// Carries out work files, each by itself, once no line of any is faulty. Where there are none, nothing fails. By a match, since a
+// faulty work has been named.
 pub fn run_files(rt: &HostRuntime, paths: &[String]) -> Result<(), Halt>
     ensures { length paths.now ≡ 0 → IsOk result }
 {

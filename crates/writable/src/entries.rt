@@ -87,6 +87,7 @@ impl<'a> Writable<'a, Plain> for Entry<'a> {
 
     ghost may = { λ a e. MayBeListed (line_of e) };
 
+    // Bounded as an extension is, each by its own parts.
     fn size(&self) -> Option<usize> {
         if self.serial.octets.len() > MOST_OCTETS {
             return None;
