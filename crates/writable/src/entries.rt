@@ -45,11 +45,14 @@ fn put_time(date: u64, out: &mut [u8], at: usize) -> usize
     }
 }
 
-// How many octets the extensions of an entry are written as.
+// How many octets the extensions of an entry are written as. By a match: of `map_or` the length was not proved (tried).
 fn reason_size(reason: Option<Reason>) -> usize
     ensures { result ≡ length (reason_octets (mapped reason_number reason)) }
 {
-    reason.map_or(0, |_| 14)
+    match reason {
+        None => 0,
+        Some(_) => 14,
+    }
 }
 
 // Writes the extensions of an entry: its reason, if it has one. By a match, since a closure would borrow the memory.
