@@ -1,10 +1,8 @@
 -- How the years and the months of a year follow one another.
-use Rattle.std.proofs.Common.{◌≡◌, ℕ, zero, suc, ◌+◌, ◌-◌, ◌*◌, ◌/◌, ◌<◌, ◌≤◌, refl, ap, ◌∙◌, inl, inr, arith}
-use Rattle.std.specs.List.{sum_by, range_with_len}
-use Rattle.std.proofs.lemmas.List.Sums.{sum_by-cons}
+use Rattle.std.proofs.Common.{◌≡◌, ℕ, zero, suc, ◌+◌, ◌-◌, ◌*◌, ◌/◌, ◌<◌, ◌≤◌, cond, nat_lt, ◌&&◌, List, [], ◌∷◌, get_or, refl, ap, ◌∙◌, inl, inr, arith}
 use Rattle.std.proofs.lemmas.Bool.{cases_lt}
 use Rattle.std.proofs.lemmas.Bool.Decides.{nat_tests}
-use Rattle.calendar.specs.Dates.{year_days, days_to, days_in, month_start}
+use Rattle.calendar.specs.Dates.{leap_year, year_days, days_to, days_in, month_start}
 use Rattle.calendar.proofs.Lasts.{Rises, rises}
 
 -- the days of the years up to p, by its leap years
@@ -65,22 +63,6 @@ pub no-months : (y : ℕ) → (month_start y 0 ≡ 0) × (month_start y 1 ≡ 0)
 unfolding month_start
 no-months y = (refl, refl)
 
--- the days of n months, from month a on
-pub months-sum : (y a n : ℕ) → sum_by (days_in y) (range_with_len a n) + month_start y a ≡ month_start y (a + n)
-months-sum y a zero = let e : a ≡ a + 0 = omega arith in omega (arith, ap (month_start y) e)
-months-sum y a (suc n) =
-    let h = months-sum y (a + 1) n in
-    let i : a + 1 ≡ suc a = omega arith in
-    let e : a + 1 + n ≡ a + suc n = omega arith in
-    let s = sum_by-cons (days_in y) a (range_with_len (a + 1) n) in
-    omega (arith, h, s, month-next y a, ap (month_start y) i, ap (month_start y) e)
-
--- the days of the months before month m
-pub months-before : (y m : ℕ) → 1 ≤ m → sum_by (days_in y) (range_with_len 1 (m - 1)) ≡ month_start y m
-months-before y m h =
-    let e : 1 + (m - 1) ≡ m = omega arith in
-    omega (arith, months-sum y 1 (m - 1), no-months y, ap (month_start y) e)
-
 pub month-start-short : (y m : ℕ) → m ≤ 13 → month_start y m ≤ 366
 month-start-short y m h =
     let u = rises (month_start y) (months-rise y) m 13 h in omega (arith, all-months y, year-long y)
@@ -107,3 +89,25 @@ day_of_month y m r l h =
     let i : m + 1 ≡ suc m = omega arith in
     let e = ap (month_start y) i in
     (omega (arith, month-next y m), month-short y m)
+
+-- the days of a common year before each month
+abbrev pub starts : List ℕ
+starts = 0 ∷ 31 ∷ 59 ∷ 90 ∷ 120 ∷ 151 ∷ 181 ∷ 212 ∷ 243 ∷ 273 ∷ 304 ∷ 334 ∷ []
+
+-- from March on a leap year is a day ahead of it
+pub month-starts : (y m : ℕ) → 1 ≤ m → m ≤ 12 → month_start y m ≡ get_or starts (m - 1) 0 + cond (nat_lt 2 m && leap_year y) 1 0
+unfolding month_start
+month-starts y zero h k = absurd (omega arith)
+month-starts y (suc zero) h k = grind (arith, nat_tests)
+month-starts y (suc (suc zero)) h k = grind (arith, nat_tests)
+month-starts y (suc (suc (suc zero))) h k = grind (arith, nat_tests)
+month-starts y (suc (suc (suc (suc zero)))) h k = grind (arith, nat_tests)
+month-starts y (suc (suc (suc (suc (suc zero))))) h k = grind (arith, nat_tests)
+month-starts y (suc (suc (suc (suc (suc (suc zero)))))) h k = grind (arith, nat_tests)
+month-starts y (suc (suc (suc (suc (suc (suc (suc zero))))))) h k = grind (arith, nat_tests)
+month-starts y (suc (suc (suc (suc (suc (suc (suc (suc zero)))))))) h k = grind (arith, nat_tests)
+month-starts y (suc (suc (suc (suc (suc (suc (suc (suc (suc zero))))))))) h k = grind (arith, nat_tests)
+month-starts y (suc (suc (suc (suc (suc (suc (suc (suc (suc (suc zero)))))))))) h k = grind (arith, nat_tests)
+month-starts y (suc (suc (suc (suc (suc (suc (suc (suc (suc (suc (suc zero))))))))))) h k = grind (arith, nat_tests)
+month-starts y (suc (suc (suc (suc (suc (suc (suc (suc (suc (suc (suc (suc zero)))))))))))) h k = grind (arith, nat_tests)
+month-starts y (suc (suc (suc (suc (suc (suc (suc (suc (suc (suc (suc (suc (suc m))))))))))))) h k = absurd (omega arith)
