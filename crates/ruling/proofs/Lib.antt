@@ -1,5 +1,4 @@
 pub mod Scans
-pub mod Earliest
 pub mod Tables
 pub mod Rulings
 pub mod Unique

@@ -1,5 +1,5 @@
--- A serial cut at its size, and rulings heard in a fold.
-use Rattle.std.proofs.Common.{◌≡◌, ℕ, ◌+◌, min, List, [], ◌∷◌, map, length, take, Option, sym, refl, ap, ◌∙◌, ⊎_elim, arith}
+-- A serial cut at its size, and what folds over rulings and entries come to.
+use Rattle.std.proofs.Common.{◌≡◌, ℕ, ◌+◌, min, cond, List, [], ◌∷◌, map, length, take, Option, sym, refl, ap, ◌∙◌, ⊎_elim, arith}
 use Rattle.std.specs.Fn.{Called}
 use Rattle.std.specs.Iterator.{Drains}
 use Rattle.std.specs.List.{fold, FoldsTo, enumerate_from}
@@ -9,8 +9,11 @@ use Rattle.std.proofs.lemmas.List.{take_all}
 use Rattle.std.proofs.lemmas.List.Sums.{fold_push}
 use Rattle.std.proofs.lemmas.Bool.{cases_lt}
 use denote.Param.Members.{Mut}
-use Rattle.ruling.specs.Cases.{Told, ruling_of}
+use Rattle.std.specs.Str.{bytes_eq}
+use Rattle.ruling.specs.Cases.{Told, Dated, entry_of, serial_of, ruling_of}
+use Rattle.ruling.specs.Rule.{earliest_in, earlier_of}
 use Rattle.ruling.specs.Answers.{heard, moved}
+use Rattle.ruling.specs.declared.cases.EntryLine.{EntryLine}
 use Rattle.ruling.specs.declared.cases.Ruling.{Ruling}
 
 -- the octets of a line are 20, so that a greater size takes no more
@@ -39,3 +42,10 @@ pub heard_folded : (k : ℕ) (rs : List Ruling) (a : Told)
 unfolding heard
 heard_folded k [] a = refl
 heard_folded k (r ∷ rs) a = heard_folded (k + 1) rs (moved k (ruling_of r) a)
+
+-- the earliest of a serial's entries, entry by entry
+pub earliest_folded : (s : List ℕ) (es : List EntryLine) (found : Option Dated)
+    → fold (λ t e. cond (bytes_eq (serial_of e) s) (earlier_of t (entry_of e)) t) found es ≡ earliest_in s (map entry_of es) found
+unfolding earliest_in
+earliest_folded s [] found = refl
+earliest_folded s (e ∷ es) found = earliest_folded s es (cond (bytes_eq (serial_of e) s) (earlier_of found (entry_of e)) found)

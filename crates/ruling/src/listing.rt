@@ -1,7 +1,8 @@
 // How one list rules on a question.
-ghost use Rattle.std.specs.Prelude.{◌≡◌, map, Some, None};
-ghost use Rattle.ruling.specs.Cases.{entry_of, asked_of, found_of, ruling_of};
-ghost use Rattle.ruling.specs.Rule.{covers_by, earliest_in, judged, ruled_by};
+ghost use Rattle.std.specs.Prelude.{◌≡◌, cond, map, Some, None};
+ghost use Rattle.std.specs.Str.{bytes_eq};
+ghost use Rattle.ruling.specs.Cases.{entry_of, serial_of, asked_of, found_of, ruling_of};
+ghost use Rattle.ruling.specs.Rule.{covers_by, earlier_of, earliest_in, judged, ruled_by};
 ghost use Rattle.ruling.specs.Table.{Rules, Only};
 
 use crate::cases::*;
@@ -15,18 +16,28 @@ pub fn covers(facts: Facts, issuer: u8, moments: Moments) -> bool
         && facts.expired.unwrap_or(facts.this_update) <= moments.not_after
 }
 
-// The earliest date of a serial in the entries, with the reason of the first entry of that date.
+// The earliest that is found once this entry is looked at too: of the same date, what was found.
+fn looked_at(found: Option<Mark>, entry: &EntryLine, serial: &[u8]) -> Option<Mark>
+    ensures { found_of result ≡ cond (bytes_eq (serial_of entry.now) serial.now) (earlier_of (found_of found) (entry_of entry.now)) (found_of found) }
+{
+    match found {
+        _ if !entry.is_of(serial) => found,
+        Some(mark) if mark.date <= entry.date => found,
+        _ => Some(Mark {
+            date: entry.date,
+            reason: entry.reason,
+        }),
+    }
+}
+
+// The earliest date of a serial in the entries, with the reason of the first entry of that date. By a fold over all entries: a
+// chain of `filter`, `map` and `min_by_key` took twice the instructions for an entry of another serial.
 fn earliest(entries: &[EntryLine], serial: &[u8]) -> Option<Mark>
     ensures { found_of result ≡ earliest_in serial.now (map entry_of entries.now) None }
 {
     entries
         .iter()
-        .filter(|entry| entry.is_of(serial))
-        .map(|entry| Mark {
-            date: entry.date,
-            reason: entry.reason,
-        })
-        .min_by_key(|mark| mark.date)
+        .fold(None, |found, entry| looked_at(found, entry, serial))
 }
 
 // What a list that covers the certificate rules, by the serial's earliest revocation in it.
