@@ -7,7 +7,14 @@ use anyhow::{Result, anyhow};
 use crl::read::read_list;
 use digest::{Hasher, hmac_sha256, same_digest, sha256};
 use hex::FromHex;
-use std::{array, io};
+use std::{array, io, str};
+
+// The hexadecimal digits of a digest, in an array: printing it takes no memory that could run out.
+fn digits_of(digest: [u8; 32]) -> Result<[u8; 64]> {
+    let mut digits = [0; 64];
+    hex::encode_to_slice(digest, &mut digits)?;
+    Ok(digits)
+}
 
 // A digest that was made, and what it should be, in hexadecimal digits.
 #[derive(Clone, Copy)]
@@ -26,7 +33,8 @@ impl Vector {
     fn hold(&self, rt: &HostRuntime) -> Result<bool> {
         let Vector { name, got, due } = *self;
         let agree = same_digest(&got, &FromHex::from_hex(due)?);
-        let is = hex::encode(rt.alloc(), got)?;
+        let digits = digits_of(got)?;
+        let is = str::from_utf8(&digits)?;
         println!(rt; "{name}, agree {agree}")?;
         println!(rt; "  is        {is}")?;
         println!(rt; "  should be {due}")?;
@@ -191,8 +199,9 @@ fn lengths(rt: &HostRuntime) -> Result<bool> {
         let message = &octets[..n];
         let whole = sha256(message);
         let agree = same_digest(&whole, &in_parts(message));
-        let digits = hex::encode(rt.alloc(), whole)?;
-        println!(rt; "length {n}, in parts too {agree}: {digits}")?;
+        let digits = digits_of(whole)?;
+        let is = str::from_utf8(&digits)?;
+        println!(rt; "length {n}, in parts too {agree}: {is}")?;
         all &= agree;
     }
     Ok(all)
