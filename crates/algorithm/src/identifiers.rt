@@ -1,7 +1,7 @@
 // Signature algorithms, compared whole.
 ghost use Rattle.std.specs.Prelude.{◌≡◌};
 ghost use Rattle.std.specs.Result.{result_ok};
-ghost use Rattle.der.specs.Reads.{told};
+ghost use Rattle.der.specs.Reads.{told, HasEnds};
 ghost use Rattle.algorithm.specs.Algorithms.{algorithm_code, algorithm_octets, algorithm_in, algorithm_at, again_at};
 
 use der::reader::*;
@@ -77,7 +77,8 @@ impl Algorithm {
 // The algorithm in the signed block.
 #[tactic(auto, unfolding(crate::specs::Algorithms::algorithm_at))]
 pub fn read_algorithm(reader: &mut Reader) -> Result<Algorithm, Fault>
-    ensures { told (λ a. a) result reader.new ≡ algorithm_at reader.old }
+    ensures read { told (λ a. a) result reader.new ≡ algorithm_at reader.old }
+    ensures ends { HasEnds reader.old reader.new }
 {
     let offset = reader.offset();
     let item = reader.raw()?;
@@ -87,7 +88,8 @@ pub fn read_algorithm(reader: &mut Reader) -> Result<Algorithm, Fault>
 // The algorithm behind the signed block, which must be the block's, octet for octet: it is compared and not read again.
 #[tactic(auto, unfolding(crate::specs::Algorithms::again_at))]
 pub fn algorithm_again(reader: &mut Reader, algorithm: Algorithm) -> Result<(), Fault>
-    ensures { told (λ u. u) result reader.new ≡ again_at algorithm reader.old }
+    ensures read { told (λ u. u) result reader.new ≡ again_at algorithm reader.old }
+    ensures ends { HasEnds reader.old reader.new }
 {
     let offset = reader.offset();
     let item = reader.raw()?;

@@ -1,6 +1,6 @@
 // The signed block (TBSCertList).
 ghost use Rattle.std.specs.Prelude.{◌≡◌};
-ghost use Rattle.der.specs.Reads.{told};
+ghost use Rattle.der.specs.Reads.{told, HasEnds};
 ghost use Rattle.block.specs.Blocks.{lines_of, list_told_of, held_of, version_at, entries_at, told_at, context_at, block_at};
 
 use algorithm::identifiers::*;
@@ -46,7 +46,8 @@ const ONE: &[u8] = &[1];
 // The version: INTEGER 1.
 #[tactic(auto, unfolding(crate::specs::Blocks::version_at))]
 fn version(reader: &mut Reader) -> Result<(), Fault>
-    ensures { told (λ u. u) result reader.new ≡ version_at reader.old }
+    ensures read { told (λ u. u) result reader.new ≡ version_at reader.old }
+    ensures ends { HasEnds reader.old reader.new }
 {
     reader.expect_that(INTEGER, |content| content == ONE)?;
     Ok(())
@@ -55,7 +56,8 @@ fn version(reader: &mut Reader) -> Result<(), Fault>
 // The entries, if the next item is a SEQUENCE.
 #[tactic(auto, unfolding(crate::specs::Blocks::entries_at))]
 fn find_entries<'a>(reader: &mut Reader<'a>) -> Result<Entries<'a>, Fault>
-    ensures { told lines_of result reader.new ≡ entries_at reader.old }
+    ensures read { told lines_of result reader.new ≡ entries_at reader.old }
+    ensures ends { HasEnds reader.old reader.new }
 {
     if !reader.next_is(SEQUENCE) {
         return Ok(Entries {
@@ -92,7 +94,8 @@ fn list_told<'a>(reader: &mut Reader<'a>) -> Result<ListTold<'a>, Fault>
 // The item with tag A0 around the list's extensions.
 #[tactic(auto, unfolding(crate::specs::Blocks::context_at))]
 fn context<'a>(reader: &mut Reader<'a>) -> Result<ListTold<'a>, Fault>
-    ensures { told list_told_of result reader.new ≡ context_at reader.old }
+    ensures read { told list_told_of result reader.new ≡ context_at reader.old }
+    ensures ends { HasEnds reader.old reader.new }
 {
     reader.enclosed(CONTEXT_0, list_told)
 }
@@ -100,7 +103,8 @@ fn context<'a>(reader: &mut Reader<'a>) -> Result<ListTold<'a>, Fault>
 // The content of the signed block.
 #[tactic(auto, unfolding(crate::specs::Blocks::block_at))]
 pub fn read_block<'a>(reader: &mut Reader<'a>) -> Result<Block<'a>, Fault>
-    ensures { told held_of result reader.new ≡ block_at reader.old }
+    ensures read { told held_of result reader.new ≡ block_at reader.old }
+    ensures ends { HasEnds reader.old reader.new }
 {
     version(reader)?;
     let algorithm = read_algorithm(reader)?;

@@ -2,7 +2,7 @@
 use Rattle.std.specs.Prelude.{ℕ, ◌+◌, ◌-◌, ◌≤◌, List, length, take, Some, None, Ok, Err, Option, Result}
 use Rattle.refusals.specs.declared.grounds.Fault.{Fault}
 use Rattle.refusals.specs.Refusals.{Flaw, flaw_of}
-use Rattle.items.specs.Parts.{Piece}
+use Rattle.items.specs.Parts.{Piece, HasEnd}
 
 -- what is left to read, and its offset
 pub record Left : Type 0 where
@@ -51,6 +51,10 @@ part_left s = record { octets = s.rest; offset = s.offset }
 -- an item has two octets or more, and so much less is left after it
 abbrev pub PastAnItem : Left → Left → Type 0
 PastAnItem s t = length t.rest + 2 ≤ length s.rest
+
+-- the end of what is left is an offset, before a reading and after it
+abbrev pub HasEnds : Left → Left → Type 0
+HasEnds s t = HasEnd (part_left s) × HasEnd (part_left t)
 
 abbrev pub mapped : {X V : Type 0} → (X → V) → Option X → Option V
 mapped f None = None

@@ -1,6 +1,6 @@
 // The reader: goes over the octets item by item, front to back, and stops at the first fault.
 ghost use Rattle.std.specs.Prelude.{◌≡◌, ℕ, ◌+◌, ◌^◌, ◌<◌, ◌≤◌, ◌↔◌, length, drop, IfOk, OnErr, OnOk, IfSome, IsNone, IsTrue};
-ghost use Rattle.der.specs.Reads.{told, seen, start_of, between, part_left, PastAnItem};
+ghost use Rattle.der.specs.Reads.{told, seen, start_of, between, part_left, PastAnItem, HasEnds};
 ghost use Rattle.items.specs.Parts.{piece_of, HasEnd};
 ghost use Rattle.refusals.specs.Refusals.{fault_at};
 ghost use Rattle.std.specs.Fn.{FnOnceReturnsAt, FnOnceReturnsAtMut};
@@ -47,7 +47,8 @@ pub fn unexpected(offset: usize) -> Fault
 impl<'a> Reader<'a> {
     // Reads the octets from their front on.
     pub fn new(octets: &'a [u8]) -> Reader<'a>
-        ensures { result ≡ record { rest = octets.now; offset = 0 } }
+        ensures new { result ≡ record { rest = octets.now; offset = 0 } }
+        ensures within { HasEnd (part_left result) }
     {
         Reader {
             rest: octets,
@@ -59,6 +60,7 @@ impl<'a> Reader<'a> {
     pub fn from_offset(octets: &'a [u8], offset: usize) -> Option<Reader<'a>>
         ensures from { IfSome result (λ r. r ≡ record { rest = drop offset octets.now; offset = offset }) }
         ensures none { IsNone result ↔ (length octets.now < offset) }
+        ensures within { IfSome result (λ r. HasEnd (part_left r)) }
     {
         let rest = octets.get(offset..)?;
         Some(Reader { rest, offset })
@@ -68,6 +70,7 @@ impl<'a> Reader<'a> {
     pub fn of(part: Part<'a>) -> Option<Reader<'a>>
         ensures of { IfSome result (λ r. r ≡ start_of (piece_of part.entry)) }
         ensures none { IsNone result ↔ (2 ^ 64 ≤ part.entry.offset + length part.entry.octets.now) }
+        ensures within { IfSome result (λ r. HasEnd (part_left r)) }
     {
         part.offset.checked_add(part.octets.len())?;
         Some(Reader {
@@ -94,7 +97,8 @@ impl<'a> Reader<'a> {
 
     // Whether nothing is left.
     pub fn is_empty(&self) -> bool
-        ensures { IsTrue result ↔ (length self.now.rest ≡ 0) }
+        ensures is { IsTrue result ↔ (length self.now.rest ≡ 0) }
+        ensures within { HasEnd (part_left self.now) }
     {
         self.rest.is_empty()
     }
@@ -112,7 +116,8 @@ impl<'a> Reader<'a> {
 
     // What was read since this was left. No reading is handed over, since those that end so differ in all else.
     pub fn since(&self, before: Part<'a>) -> Part<'a>
-        ensures { piece_of result ≡ between (start_of (piece_of before.entry)) self.now }
+        ensures since { piece_of result ≡ between (start_of (piece_of before.entry)) self.now }
+        ensures within { HasEnd (part_left self.now) }
     {
         let read = before.octets.len().saturating_sub(self.rest.len());
         let (octets, _) = before.octets.split_at(read);
@@ -131,6 +136,7 @@ impl<'a> Reader<'a> {
         ensures number { IfOk result (λ i. item_number i ≡ number_of_tag laid (thing_of i).tag) }
         ensures within { IfOk result (λ i. HasEnd (thing_of i).content) }
         ensures long { OnOk result (PastAnItem self.old self.new) }
+        ensures ends { HasEnds self.old self.new }
     {
         let offset = self.offset;
         let tag = *self.rest.first().ok_or(unexpected(offset))?;
@@ -155,6 +161,7 @@ impl<'a> Reader<'a> {
         ensures read { told piece_of result self.new ≡ expect_at tag self.old }
         ensures within { IfOk result (λ p. HasEnd (piece_of p)) }
         ensures long { OnOk result (PastAnItem self.old self.new) }
+        ensures ends { HasEnds self.old self.new }
     {
         let offset = self.offset;
         let item = self.item(Laid::Any)?;
@@ -174,6 +181,7 @@ impl<'a> Reader<'a> {
         ensures read { Tested (FnOnceReturnsAt F.FnOnce admits) tag self.old result self.new }
         ensures within { IfOk result (λ p. HasEnd (piece_of p)) }
         ensures long { OnOk result (PastAnItem self.old self.new) }
+        ensures ends { HasEnds self.old self.new }
     {
         let offset = self.offset;
         let content = self.expect(tag)?;
@@ -186,7 +194,9 @@ impl<'a> Reader<'a> {
     // Reads the item in front, which must have the tag, and gives a reader of its content. Not by `of`, which can fail.
     pub fn open(&mut self, tag: u8) -> Result<Reader<'a>, Fault>
         ensures read { told part_left result self.new ≡ expect_at tag self.old }
+        ensures within { IfOk result (λ r. HasEnd (part_left r)) }
         ensures long { OnOk result (PastAnItem self.old self.new) }
+        ensures ends { HasEnds self.old self.new }
     {
         let content = self.expect(tag)?;
         Ok(Reader {
@@ -204,6 +214,7 @@ impl<'a> Reader<'a> {
         requires { F.IsAlwaysCallable read }
         ensures read { Enclosed (FnOnceReturnsAtMut F.FnOnce read) tag self.old result self.new }
         ensures long { OnOk result (PastAnItem self.old self.new) }
+        ensures ends { HasEnds self.old self.new }
     {
         let mut inner = self.open(tag)?;
         let value = read(&mut inner)?;
@@ -215,8 +226,9 @@ impl<'a> Reader<'a> {
     #[tactic(auto, unfolding(crate::specs::Items::whole_at))]
     pub fn whole(&mut self, tag: u8) -> Result<Whole<'a>, Fault>
         ensures read { told wholly_of result self.new ≡ whole_at tag self.old }
-        ensures within { IfOk result (λ w. HasEnd (piece_of w.content)) }
+        ensures within { IfOk result (λ w. HasEnd (piece_of w.item) × HasEnd (piece_of w.content)) }
         ensures long { OnOk result (PastAnItem self.old self.new) }
+        ensures ends { HasEnds self.old self.new }
     {
         let before = self.rest();
         let content = self.expect(tag)?;
@@ -229,7 +241,9 @@ impl<'a> Reader<'a> {
     // Reads the item in front, whatever its tag, and gives it as it stands.
     #[tactic(auto, unfolding(crate::specs::Items::raw_at))]
     pub fn raw(&mut self) -> Result<Part<'a>, Fault>
-        ensures { told piece_of result self.new ≡ raw_at self.old }
+        ensures read { told piece_of result self.new ≡ raw_at self.old }
+        ensures within { IfOk result (λ p. HasEnd (piece_of p)) }
+        ensures ends { HasEnds self.old self.new }
     {
         let before = self.rest();
         self.item(Laid::Any)?;
@@ -240,7 +254,9 @@ impl<'a> Reader<'a> {
     #[tactic(auto, unfolding(crate::specs::Items::name_at, crate::specs::Items::whole_at, crate::specs::Items::expect_at))]
     pub fn name(&mut self) -> Result<Part<'a>, Fault>
         ensures read { told piece_of result self.new ≡ name_at self.old }
+        ensures within { IfOk result (λ p. HasEnd (piece_of p)) }
         ensures long { OnOk result (PastAnItem self.old self.new) }
+        ensures ends { HasEnds self.old self.new }
     {
         let before = self.rest();
         match self.item(Laid::Name)? {
@@ -257,6 +273,7 @@ impl<'a> Reader<'a> {
     pub fn end(&mut self) -> Result<(), Fault>
         ensures end { seen (λ u. u) result ≡ end_at self.old }
         ensures still { OnOk result (self.new ≡ self.old) }
+        ensures ends { HasEnds self.old self.new }
     {
         let offset = self.offset;
         if self.rest.is_empty() {
@@ -268,7 +285,8 @@ impl<'a> Reader<'a> {
 
     // Whether the next item begins with the tag.
     pub fn next_is(&self, tag: u8) -> bool
-        ensures { result ≡ next_is tag self.now }
+        ensures is { result ≡ next_is tag self.now }
+        ensures within { HasEnd (part_left self.now) }
     {
         self.rest.first() == Some(&tag)
     }

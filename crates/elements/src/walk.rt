@@ -1,7 +1,7 @@
 // Elements that can be read, and the one walk over a run of them.
 ghost use Rattle.std.specs.Prelude.{◌≡◌, Result, OnOk};
 ghost use Rattle.refusals.specs.declared.grounds.Fault.{Fault as Flawed};
-ghost use Rattle.der.specs.Reads.{Left, PastAnItem};
+ghost use Rattle.der.specs.Reads.{Left, PastAnItem, HasEnds};
 ghost use Rattle.elements.specs.Runs.{Walked, kept};
 
 use der::reader::*;
@@ -15,7 +15,8 @@ pub trait Readable<'a, S>: Sized {
 
     fn read(reader: &mut Reader<'a>, state: &mut S) -> Result<Self, Fault>
         ensures read { means state.old reader.old result state.new reader.new }
-        ensures long { OnOk result (PastAnItem reader.old reader.new) };
+        ensures long { OnOk result (PastAnItem reader.old reader.new) }
+        ensures ends { HasEnds reader.old reader.new };
 }
 
 // No state: whatever stood before, the same may follow.
@@ -38,7 +39,8 @@ pub fn walk<'a, S, E: Readable<'a, S> + Drop>(
     state: &mut S,
     out: &mut [E],
 ) -> Result<usize, Fault>
-    ensures { Walked E.Readable.means state.old reader.old result state.new reader.new out.old out.new }
+    ensures walked { Walked E.Readable.means state.old reader.old result state.new reader.new out.old out.new }
+    ensures ends { HasEnds reader.old reader.new }
 {
     // An element takes octets, so that there are no more of them than octets.
     let most = reader.len();

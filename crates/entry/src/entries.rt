@@ -1,6 +1,6 @@
 // Entries as a kind of element.
 ghost use Rattle.std.specs.Prelude.{◌≡◌, OnOk};
-ghost use Rattle.der.specs.Reads.{told, told_both, mapped, PastAnItem};
+ghost use Rattle.der.specs.Reads.{told, told_both, mapped, PastAnItem, HasEnds};
 ghost use Rattle.items.specs.Parts.{piece_of};
 ghost use Rattle.elements.specs.Names.{plain_of};
 ghost use Rattle.telling.specs.Reasons.{reason_number};
@@ -76,6 +76,7 @@ fn entry_body<'a>(reader: &mut Reader<'a>) -> Result<Entry<'a>, Fault>
 pub fn read_entry<'a>(reader: &mut Reader<'a>) -> Result<Entry<'a>, Fault>
     ensures read { told line_of result reader.new ≡ entry_at reader.old }
     ensures long { OnOk result (PastAnItem reader.old reader.new) }
+    ensures ends { HasEnds reader.old reader.new }
 {
     reader.enclosed(SEQUENCE, entry_body)
 }

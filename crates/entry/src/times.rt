@@ -1,7 +1,7 @@
 // The times of a list: UTCTime before 2050, GeneralizedTime from 2050 on.
 ghost use Rattle.std.specs.Prelude.{◌≡◌};
 ghost use Rattle.items.specs.Things.{time_tag};
-ghost use Rattle.der.specs.Reads.{told};
+ghost use Rattle.der.specs.Reads.{told, HasEnds};
 ghost use Rattle.entry.specs.Times.{time_by, time_at};
 
 use der::reader::*;
@@ -23,7 +23,8 @@ fn moment_in(form: TimeForm, octets: &[u8]) -> Option<u64>
 // An update, or the date of an entry.
 #[tactic(auto, unfolding(crate::specs::Times::time_at))]
 pub fn time(reader: &mut Reader) -> Result<u64, Fault>
-    ensures { told (λ m. m) result reader.new ≡ time_at reader.old }
+    ensures read { told (λ m. m) result reader.new ≡ time_at reader.old }
+    ensures ends { HasEnds reader.old reader.new }
 {
     let offset = reader.offset();
     match reader.item(Laid::Any)? {

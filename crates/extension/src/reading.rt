@@ -1,6 +1,6 @@
 // Extensions as a kind of element, in a list and in an entry.
 ghost use Rattle.std.specs.Prelude.{◌≡◌, OnOk};
-ghost use Rattle.der.specs.Reads.{told, told_both, seen, part_left, PastAnItem};
+ghost use Rattle.der.specs.Reads.{told, told_both, seen, part_left, PastAnItem, HasEnds};
 ghost use Rattle.telling.specs.Tells.{tells_of};
 ghost use Rattle.extension.specs.Extensions.{extension_of, before_tells, unread, flag_at, body_at, extension_at, extension_step, told_by};
 
@@ -35,7 +35,9 @@ fn is_other(role: Role) -> bool
     role == Role::Other
 }
 
-// The content of the extension whose tag stands at `at`, where these were told before it.
+// The content of the extension whose tag stands at `at`, where these were told before it. Not inlined: within `read_extension` its
+// large result was put together twice, and a run of extensions took a third more time.
+#[inline(never)]
 #[tactic(auto, unfolding(crate::specs::Extensions::body_at))]
 fn body<'a>(
     reader: &mut Reader<'a>,
@@ -74,6 +76,7 @@ fn read_extension<'a>(
 ) -> Result<Extension<'a>, Fault>
     ensures read { told extension_of result reader.new ≡ extension_at context (tells_of before.now) reader.old }
     ensures long { OnOk result (PastAnItem reader.old reader.new) }
+    ensures ends { HasEnds reader.old reader.new }
 {
     let at = reader.offset();
     // Not by `enclosed`: of a closure that captures, the check did not find what it gives (tried).
