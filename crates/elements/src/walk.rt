@@ -13,6 +13,7 @@ pub trait Readable<'a, S>: Sized {
     // In this state, with this left to read, reading gives this result, and leaves this state and this to read.
     ghost means: { S → Left → Result Self Flawed → S → Left → Type 0 };
 
+    // A reading that calls nothing of the reader asks `offset` of it once, whose clause says that it has an end.
     fn read(reader: &mut Reader<'a>, state: &mut S) -> Result<Self, Fault>
         ensures read { means state.old reader.old result state.new reader.new }
         ensures long { OnOk result (PastAnItem reader.old reader.new) }

@@ -67,7 +67,8 @@ fn body<'a>(
     })
 }
 
-// An extension, where these were told before it.
+// An extension, where these were told before it. Inlined: else the large result of `body` is copied once more.
+#[inline(always)]
 #[tactic(auto, unfolding(crate::specs::Extensions::extension_at))]
 fn read_extension<'a>(
     reader: &mut Reader<'a>,
